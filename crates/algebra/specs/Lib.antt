@@ -1,0 +1,15 @@
+pub mod Ring
+pub mod Order
+pub mod OrderedRing
+pub mod Size
+pub mod Plane
+pub mod Integers
+pub mod Surd
+pub mod SurdSize
+pub mod Fraction
+pub mod OrderedField
+pub mod LowestTerms
+pub mod NumberFormulas
+pub mod NumberField
+pub mod WholeSurds
+pub mod Comparison
