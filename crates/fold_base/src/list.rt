@@ -1,0 +1,175 @@
+ghost use Rattle.std.specs.Prelude.{◌≡◌, ◌↔◌, ◌≤◌, [], ◌∷◌, ◌++◌, length, slice_get, IsTrue, IfOk, OnOk, OnErr, IfErr, MatchOption};
+ghost use Rattle.std.specs.Option.{option_copied};
+
+use crate::PieceTaker;
+use std::alloc::{AllocError, AllocFailed, Global};
+use std::marker::Model;
+
+/// A `Vec` that contracts see as the list of its elements.
+#[derive(Debug, Drop)]
+pub struct List<T> {
+    items: Vec<T>,
+}
+
+impl<T> Model for List<T> {
+    ghost use Rattle.std.specs.Prelude.{List as Items};
+    ghost use Rattle.std.specs.Coded.{coded_list};
+
+    ghost Value = { Items T };
+
+    ghost coded = { coded_list T.code };
+
+    ghost view = { λ l. l.items.items };
+}
+
+impl<T> List<T> {
+    /// An empty list, which takes no memory yet.
+    pub fn new(alloc: Global) -> List<T>
+        ensures { result ≡ [] }
+    {
+        List {
+            items: Vec::new(alloc),
+        }
+    }
+
+    /// An empty list with room for so many elements.
+    pub fn with_room(alloc: Global, room: usize) -> Result<List<T>, AllocError>
+        ensures { IfOk result (λ l. l ≡ []) }
+    {
+        let items = Vec::with_capacity(alloc, room)?;
+        Ok(List { items })
+    }
+
+    pub fn from_vec(items: Vec<T>) -> List<T>
+        ensures { result ≡ items.items }
+    {
+        List { items }
+    }
+
+    /// Appends the item, or gives it back and changes nothing.
+    pub fn push(&mut self, item: T) -> Result<(), AllocFailed<T>>
+        ensures ok { OnOk result (self.new ≡ self.old ++ item ∷ []) }
+        ensures err { OnErr result (self.new ≡ self.old) }
+        ensures back { IfErr result (λ e. e.value ≡ item) }
+    {
+        self.items.push(item)
+    }
+
+    /// Takes the last item off.
+    pub fn pop(&mut self) -> Option<T>
+        ensures { MatchOption result ((self.old ≡ []) × (self.new ≡ [])) (λ last. self.old ≡ self.new ++ last ∷ []) }
+    {
+        self.items.pop()
+    }
+
+    pub fn get(&self, place: usize) -> Option<&T>
+        ensures { option_copied result ≡ slice_get self.now place }
+    {
+        self.items.get(place)
+    }
+
+    pub fn len(&self) -> usize
+        ensures { result ≡ length self.now }
+    {
+        self.items.len()
+    }
+
+    pub fn is_empty(&self) -> bool
+        ensures { IsTrue result ↔ (self.now ≡ []) }
+    {
+        self.items.is_empty()
+    }
+
+    pub fn as_slice(&self) -> &[T]
+        ensures { result.now ≡ self.now }
+    {
+        self.items.as_slice()
+    }
+}
+
+impl<T: Copy> List<T> {
+    pub fn from_slice(alloc: Global, items: &[T]) -> Result<List<T>, AllocError>
+        ensures { IfOk result (λ l. l ≡ items.now) }
+    {
+        let items = Vec::from_slice(alloc, items)?;
+        Ok(List { items })
+    }
+
+    /// Appends each item, or changes nothing.
+    pub fn extend_from_slice(&mut self, items: &[T]) -> Result<(), AllocError>
+        ensures ok { OnOk result (self.new ≡ self.old ++ items.now) }
+        ensures err { OnErr result (self.new ≡ self.old) }
+    {
+        self.items.extend_from_slice(items)
+    }
+}
+
+/// Collects the pieces: it has taken its own content and no other text.
+impl PieceTaker for List<u8> {
+    ghost count = { λ l. length l };
+
+    ghost has_taken = { λ l text. text ≡ l };
+
+    fn take_piece(&mut self, piece: &[u8]) -> Result<(), AllocError> {
+        self.extend_from_slice(piece)
+    }
+}
+
+#[cfg(test)]
+mod tests {
+    use super::*;
+    use crate::Text;
+    use std::test::Fail;
+
+    #[test]
+    fn keeps_its_elements(rt: HostRuntime) -> Result<(), Fail> {
+        let alloc = rt.alloc();
+        let mut list = List::from_slice(alloc, b"ab")?;
+        list.push(b'c')?;
+        list.extend_from_slice(b"de")?;
+        list.take_piece(b"f")?;
+        assert_eq!(rt; list.as_slice(), b"abcdef".as_slice());
+        let empty: List<u8> = List::with_room(alloc, 3)?;
+        assert_eq!(rt; empty.len(), 0);
+        Ok(())
+    }
+
+    #[derive(Drop)]
+    #[cycle(tree)]
+    enum Tree {
+        Leaf(u8),
+        Branches(List<Tree>),
+        Named(List<Branch>),
+    }
+
+    #[derive(Drop)]
+    #[cycle(tree)]
+    struct Branch {
+        name: Text,
+        tree: Tree,
+    }
+
+    #[cycle(first_leaf)]
+    fn first_leaf(tree: &Tree) -> Option<u8> {
+        match tree {
+            Tree::Leaf(leaf) => Some(*leaf),
+            Tree::Branches(branches) => first_leaf(branches.get(0)?),
+            Tree::Named(branches) => first_leaf(&branches.get(0)?.tree),
+        }
+    }
+
+    #[test]
+    fn reaches_itself(rt: HostRuntime) -> Result<(), Fail> {
+        let alloc = rt.alloc();
+        let mut leaves = List::new(alloc);
+        leaves.push(Tree::Leaf(7)).map_err(AllocError::from)?;
+        let branch = Branch {
+            name: Text::from_text(alloc, "first")?,
+            tree: Tree::Branches(leaves),
+        };
+        let mut branches = List::new(alloc);
+        branches.push(branch).map_err(AllocError::from)?;
+        assert_eq!(rt; first_leaf(&Tree::Named(branches)), Some(7));
+        Ok(())
+    }
+}

@@ -1,0 +1,112 @@
+ghost use Rattle.std.specs.Prelude.{◌≡◌, ◌≢◌, IfOk, IsUtf8, string_bytes};
+ghost use Rattle.std.specs.Str.{IsAscii};
+
+use std::alloc::{AllocError, Global};
+use std::fmt;
+use std::marker::Model;
+
+/// A `String` that contracts see as the list of its UTF-8 bytes.
+#[derive(Debug, Drop)]
+pub struct Text {
+    inner: String,
+}
+
+/// Why bytes make no text.
+#[derive(Clone, Copy, Debug, PartialEq, Eq)]
+pub enum TextMakeFault {
+    NotUtf8,
+    Memory(AllocError),
+}
+
+impl Model for Text {
+    ghost use Rattle.std.specs.Prelude.{List, ℕ, string_bytes};
+
+    ghost Value = { List ℕ };
+
+    ghost view = { λ t. string_bytes t.inner };
+}
+
+impl Text {
+    pub fn from_text(alloc: Global, text: &str) -> Result<Text, AllocError>
+        ensures { IfOk result (λ t. t ≡ text.now) }
+    {
+        let inner = String::from_str(alloc, text)?;
+        Ok(Text { inner })
+    }
+
+    /// Copies bytes that are UTF-8.
+    pub fn from_bytes(alloc: Global, bytes: &[u8]) -> Result<Text, TextMakeFault>
+        ensures ok { IfOk result (λ t. t ≡ bytes.now) }
+
+        // Exactly the bytes that are no UTF-8 are refused as such.
+        ensures utf8 { result ≢ Err TextMakeFault.NotUtf8 → IsUtf8 bytes.now }
+        ensures not_utf8 { result ≡ Err TextMakeFault.NotUtf8 → ¬ (IsUtf8 bytes.now) }
+    {
+        match std::str::from_utf8(bytes) {
+            Ok(text) => Text::from_text(alloc, text).map_err(TextMakeFault::Memory),
+            Err(_) => Err(TextMakeFault::NotUtf8),
+        }
+    }
+
+    /// Copies bytes that are known to be ASCII.
+    pub fn from_ascii(alloc: Global, bytes: &[u8]) -> Result<Text, AllocError>
+        requires { IsAscii bytes.now }
+        ensures { IfOk result (λ t. t ≡ bytes.now) }
+    {
+        Text::from_text(alloc, std::str::from_utf8(bytes).unwrap())
+    }
+
+    pub fn from_string(inner: String) -> Text
+        ensures { result ≡ string_bytes inner }
+    {
+        Text { inner }
+    }
+
+    pub fn bytes(&self) -> &[u8]
+        ensures same { result.now ≡ self.now }
+        ensures utf8 { IsUtf8 result.now }
+    {
+        self.inner.as_str().as_bytes()
+    }
+
+    pub fn as_str(&self) -> &str
+        ensures { result.now ≡ self.now }
+    {
+        self.inner.as_str()
+    }
+
+    pub fn copy(&self, alloc: Global) -> Result<Text, AllocError>
+        ensures { IfOk result (λ t. t ≡ self.now) }
+    {
+        Text::from_text(alloc, self.inner.as_str())
+    }
+}
+
+impl fmt::Display for Text {
+    ghost use Rattle.std.specs.Prelude.{Some};
+
+    ghost output = { λ t. Some t };
+
+    fn fmt<W: fmt::Write>(&self, f: &mut fmt::Formatter<W>) -> fmt::Result {
+        f.write_str(self.inner.as_str())
+    }
+}
+
+#[cfg(test)]
+mod tests {
+    use super::*;
+    use std::test::Fail;
+
+    #[test]
+    fn takes_utf8_alone(rt: HostRuntime) -> Result<(), Fail> {
+        let alloc = rt.alloc();
+        let accented = Text::from_bytes(alloc, "é".as_bytes()).ok().ok_or("utf-8")?;
+        assert_eq!(rt; accented.copy(alloc)?.as_str(), "é");
+        assert_eq!(rt;
+            Text::from_bytes(alloc, b"\xc3").err(),
+            Some(TextMakeFault::NotUtf8)
+        );
+        assert_eq!(rt; Text::from_ascii(alloc, b"e")?.as_str(), "e");
+        Ok(())
+    }
+}
