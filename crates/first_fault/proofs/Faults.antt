@@ -1,0 +1,41 @@
+-- An accepted text has no first fault, and no text has two.
+use Rattle.std.proofs.Common.{◌≡◌, ℕ, ◌+◌, ◌<◌, ◌≤◌, List, ◌++◌, take, drop, refl, sym, subst, append_assoc, arith, inl, inr}
+use Rattle.std.proofs.lemmas.List.{take-append-drop, take-take}
+use Rattle.std.proofs.lemmas.Bool.{cases_lt}
+use Rattle.first_fault.specs.FirstFault.{IsAccepted, Begins, IsFirstFault, Stop, Byte, Ended}
+
+module _ {V : Type 0} (Spells : List ℕ → V → Type 0) where
+  -- what begins an accepted text does so from each of its fronts
+  pub begins_front : (s t : List ℕ) → Begins Spells (s ++ t) → Begins Spells s
+  begins_front s t b = (t ++ b.0, subst (IsAccepted Spells) (append_assoc s t b.0) b.1)
+
+  begins_shorter : (m n : ℕ) (t : List ℕ) → m ≤ n → Begins Spells (take n t) → Begins Spells (take m t)
+  begins_shorter m n t h b = rw (← take-take m n t h) (begins_front (take m (take n t)) (drop m (take n t)) (rw take-append-drop b))
+
+  begins_accepted : (t : List ℕ) (n : ℕ) → IsAccepted Spells t → Begins Spells (take n t)
+  begins_accepted t n a = (drop n t, subst (IsAccepted Spells) (sym (take-append-drop n t)) a)
+
+  -- a fault stands at the text's end at most, and no fault stands before it
+  no_earlier : (text : List ℕ) (p q : ℕ) (c d : Stop) → p < q → IsFirstFault Spells text p c → IsFirstFault Spells text q d → ⊥
+  no_earlier text p q Byte Byte lt f g = f.2 (begins_shorter (p + 1) q text (omega arith) g.1)
+  no_earlier text p q Byte Ended lt f g = f.2 (begins_shorter (p + 1) q text (omega arith) g.1)
+  no_earlier text p q Ended Byte lt f g = omega arith
+  no_earlier text p q Ended Ended lt f g = omega arith
+
+  same_stop : (text : List ℕ) (p q : ℕ) (c d : Stop) → p ≡ q → IsFirstFault Spells text p c → IsFirstFault Spells text q d → c ≡ d
+  same_stop text p q Byte Byte e f g = refl
+  same_stop text p q Byte Ended e f g = absurd (omega arith)
+  same_stop text p q Ended Byte e f g = absurd (omega arith)
+  same_stop text p q Ended Ended e f g = refl
+
+  pub no_fault : (text : List ℕ) (p : ℕ) (c : Stop) → IsAccepted Spells text → IsFirstFault Spells text p c → ⊥
+  no_fault text p Byte a f = f.2 (begins_accepted text (p + 1) a)
+  no_fault text p Ended a f = f.2 a
+
+  pub one_fault : (text : List ℕ) (p q : ℕ) (c d : Stop) → IsFirstFault Spells text p c → IsFirstFault Spells text q d → (p ≡ q) × (c ≡ d)
+  one_fault text p q c d f g =
+      let same : p ≡ q = elim (cases_lt p q) [
+        | inl lt ↦ absurd (no_earlier text p q c d lt f g)
+        | inr ge ↦ elim (cases_lt q p) [ inl lt ↦ absurd (no_earlier text q p d c lt g f) | inr le ↦ omega arith ]
+      ]
+      in (same, same_stop text p q c d same f g)
