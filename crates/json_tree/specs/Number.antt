@@ -1,0 +1,29 @@
+-- The text of a number, in the words of RFC 8259, section 6.
+use Rattle.std.specs.Prelude.{◌≡◌, ◌⊎◌, ℕ, List, [], ◌∷◌, ◌++◌}
+use Rattle.std.specs.Char.{IsAsciiDigit}
+use Rattle.std.specs.Int.{IsInRange}
+use Rattle.std.specs.List.{AllByRecursion}
+
+-- a digit from 1 to 9
+abbrev pub IsDigit1To9 : ℕ → Type 0
+IsDigit1To9 b = IsInRange 49 57 b
+
+-- digits, in any number
+abbrev pub AreDigits : List ℕ → Type 0
+AreDigits text = AllByRecursion IsAsciiDigit text
+
+-- a minus, or nothing
+abbrev pub IsMinusOrNone : List ℕ → Type 0
+IsMinusOrNone text = (text ≡ 45 ∷ []) ⊎ (text ≡ [])
+
+-- `0`, or a digit from 1 to 9 and then digits
+abbrev pub IsInt : List ℕ → Type 0
+IsInt text = (text ≡ 48 ∷ []) ⊎ ((first : ℕ) × (rest : List ℕ) × (text ≡ first ∷ rest) × IsDigit1To9 first × AreDigits rest)
+
+-- a number: a minus or nothing, and an int
+abbrev pub IsNumber : List ℕ → Type 0
+IsNumber text = (minus int : List ℕ) × (text ≡ minus ++ int) × IsMinusOrNone minus × IsInt int
+
+-- some number begins with these bytes
+abbrev pub BeginsNumber : List ℕ → Type 0
+BeginsNumber text = (more : List ℕ) × IsNumber (text ++ more)
