@@ -1,0 +1,58 @@
+-- The printed text of lines spells them.
+use Rattle.std.proofs.Common.{◌≡◌, ℕ, suc, ◌+◌, ◌<◌, List, [], ◌∷◌, ◌++◌, length, take, get_or, All, refl, sym, ◌∙◌, ap, subst, append_assoc, arith, inl, Some, None}
+use Rattle.std.proofs.lemmas.List.{append-nil, take_more, flat_map_more}
+use Rattle.std.proofs.lemmas.List.Elements.{All-nil, All-cons, All-append}
+use Rattle.cp_lines.specs.CpText.{EndedLines, none, one_more, SpellsLine, CpText}
+use Rattle.cp_lines.specs.Print.{IsPrintable, spaced, printed_line, printed}
+use Rattle.cp_lines.specs.declared.line.CpLine.{CpLine}
+
+abbrev front : CpLine → List ℕ
+front l = (l.kind + 48) ∷ [] ++ spaced l.x1 ++ spaced l.y1 ++ spaced l.x2 ++ spaced l.y2
+
+front_spells : (l : CpLine) → IsPrintable l → SpellsLine (front l) (Some l)
+front_spells l p = (
+  front l,
+  [],
+  sym (append-nil _),
+  (
+    [],
+    spaced l.x1 ++ spaced l.y1 ++ spaced l.x2 ++ spaced l.y2,
+    simp append_assoc,
+    tt,
+    p.kind,
+    (
+      32 ∷ [],
+      spaced l.y1 ++ spaced l.x2 ++ spaced l.y2,
+      simp append_assoc,
+      (inl refl, tt),
+      p.x1,
+      (
+        32 ∷ [],
+        spaced l.x2 ++ spaced l.y2,
+        simp append_assoc,
+        (inl refl, tt),
+        p.y1,
+        (32 ∷ [], spaced l.y2, simp append_assoc, (inl refl, tt), p.x2, (32 ∷ [], [], simp (append_assoc, append-nil), (inl refl, tt), p.y2, refl)),
+      ),
+    ),
+  ),
+  tt,
+)
+
+ended_printed : (before : List ℕ) (earlier lines : List CpLine) → EndedLines before earlier → All IsPrintable lines → EndedLines (before ++ printed lines) (earlier ++ lines)
+ended_printed before earlier [] e p = subst (λ t. EndedLines t (earlier ++ [])) (sym (append-nil before)) (subst (EndedLines before) (sym (append-nil earlier)) e)
+ended_printed before earlier (l ∷ lines) e p =
+    let first : EndedLines (before ++ printed_line l) (earlier ++ l ∷ []) = one_more before (front l) (10 ∷ []) earlier (Some l) e (front_spells l (p 0 l (omega arith))) (inl refl) (simp append_assoc) refl in
+    let rest = ended_printed (before ++ printed_line l) (earlier ++ l ∷ []) lines first (λ k d h. p (suc k) d (omega arith)) in
+    subst (λ t. EndedLines t (earlier ++ l ∷ lines)) (append_assoc before (printed_line l) (printed lines)) (subst (EndedLines ((before ++ printed_line l) ++ printed lines)) (append_assoc earlier (l ∷ []) lines) rest)
+
+pub printed_spells : (lines : List CpLine) → All IsPrintable lines → CpText (printed lines) lines
+printed_spells lines p = (printed lines, [], lines, None, ended_printed [] [] lines none p, tt, sym (append-nil (printed lines)), sym (append-nil lines))
+
+-- one line more
+pub printed_more : (lines : List CpLine) (i : ℕ) (d : CpLine) → i < length lines → printed (take (i + 1) lines) ≡ printed (take i lines) ++ printed_line (get_or lines i d)
+printed_more lines i d h = ap printed (take_more lines i d h) ∙ sym (flat_map_more printed_line [] (take i lines) (get_or lines i d))
+
+pub printable_more : (lines : List CpLine) (i : ℕ) (d : CpLine) → i < length lines → All IsPrintable (take i lines) → IsPrintable (get_or lines i d) → All IsPrintable (take (i + 1) lines)
+printable_more lines i d h a p =
+    subst (All IsPrintable) (sym (take_more lines i d h)) (All-append IsPrintable (take i lines) (get_or lines i d ∷ []) a (All-cons IsPrintable (get_or lines i d) [] p (All-nil IsPrintable)))
