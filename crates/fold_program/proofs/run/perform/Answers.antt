@@ -1,0 +1,14 @@
+use Rattle.std.proofs.Common.{inr, subst}
+use Rattle.fold_base.specs.Outside.{Gains, GainsPart}
+use Rattle.fold_program.specs.Words.{texts}
+use Rattle.fold_program.proofs.Ending.{ends_refused, ends_answered, breaks_off}
+use Rattle.fold_program.proofs.run.perform.Goals as goal
+
+pub returns-in-Err-clause-outcome : goal.returns-in-Err-clause-outcome
+returns-in-Err-clause-outcome g c = λ bytes input. ends_refused (texts c.args.words.now) bytes _ c.in-Err.status (c.in-Err.ensures.outcome bytes input)
+
+pub returns-in-Ok-write_all_bytes-clause-outcome : goal.returns-in-Ok-write_all_bytes-clause-outcome
+returns-in-Ok-write_all_bytes-clause-outcome g c = λ bytes input. inr (ends_answered (texts c.args.words.now) bytes _ _ c.in-Ok.output (c.in-Ok.ensures.outcome bytes input) (subst (λ t. Gains (g.T.Sink.written c.args.sink.now) (g.T.Sink.written c.write_all_bytes.new.sink) t) c.bytes.ensures.same c.in-Ok-write_all_bytes.ensures.whole))
+
+pub returns-clause-broken : goal.returns-clause-broken
+returns-clause-broken g c = λ e bytes input. breaks_off (texts c.args.words.now) bytes _ _ c.in-Ok.output (c.in-Ok.ensures.outcome bytes input) (subst (λ t. GainsPart (g.T.Sink.written c.args.sink.now) (g.T.Sink.written c.write_all_bytes.new.sink) t) c.bytes.ensures.same c.in-Err-write_all_bytes.ensures.part)

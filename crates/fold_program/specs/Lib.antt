@@ -1,0 +1,5 @@
+pub mod Status
+pub mod Steps
+pub mod Words
+pub mod Outcome
+pub mod Notes

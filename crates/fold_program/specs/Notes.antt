@@ -1,0 +1,39 @@
+-- What is said of a status.
+use Rattle.std.specs.Prelude.{◌≡◌, ℕ, List, [], ◌∷◌, ◌++◌, codes}
+use Rattle.std.specs.declared.option.Option.{Option}
+use Rattle.fold_base.specs.Outside.{Gains}
+use Rattle.cp_lines.specs.FaultText.{fault_text}
+use Rattle.fold_program.specs.declared.status.Status.{Status}
+use Rattle.fold_program.specs.declared.status.Status.TheVariants.{Done, Text, Words, Read, Write, Limit, Memory}
+use Rattle.fold_program.specs.declared.status.TextFault.{TextFault}
+use Rattle.fold_program.specs.declared.status.TextFault.TheVariants.{Cp}
+use Rattle.fold_program.specs.declared.status.WordsCause.{WordsCause}
+use Rattle.fold_program.specs.declared.status.WordsCause.TheVariants.{Refused}
+use Rattle.fold_program.specs.declared.status.Limit.{Limit as AnyLimit}
+use Rattle.fold_program.specs.declared.status.Limit.TheVariants.{TooLong}
+
+abbrev pub text_message : TextFault → List ℕ
+text_message (Cp fault) = fault_text fault
+
+abbrev pub words_message : WordsCause → List ℕ
+words_message Refused = codes "words refused"
+
+abbrev pub limit_message : AnyLimit → List ℕ
+limit_message TooLong = codes "too long"
+
+abbrev pub message : Status → List ℕ
+message Done = codes "done"
+message (Text fault) = text_message fault
+message (Words cause) = words_message cause
+message Read = codes "read failed"
+message Write = codes "write failed"
+message (Limit limit) = limit_message limit
+message Memory = codes "memory"
+
+-- The line on a status.
+abbrev pub note_line : Status → List ℕ
+note_line status = codes "fold_program: " ++ message status ++ 10 ∷ []
+
+-- These bytes were gained, or a front of them.
+abbrev pub GainsFront : Option (List ℕ) → Option (List ℕ) → List ℕ → Type 0
+GainsFront before after bytes = (front : List ℕ) × (rest : List ℕ) × (bytes ≡ front ++ rest) × Gains before after front

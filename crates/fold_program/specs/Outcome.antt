@@ -1,0 +1,64 @@
+-- The outcome of words and bytes, and what it has to do with the outside.
+use Rattle.std.specs.Prelude.{◌≡◌, ◌⊎◌, ℕ, ◌<◌, ◌≤◌, List, length, Some}
+use Rattle.std.specs.declared.option.Option.{Option}
+use Rattle.fold_base.specs.Outside.{Gains, GainsPart}
+use Rattle.fold_base.specs.declared.outside.TheConstants.{MOST_BYTES}
+use Rattle.cp_lines.specs.CpText.{CpText}
+use Rattle.cp_lines.specs.Print.{printed}
+use Rattle.cp_lines.specs.Reads.{NamesFirstFault}
+use Rattle.cp_lines.specs.declared.fault.CpFault.{CpFault}
+use Rattle.fold_program.specs.Status.{IsAnswer}
+use Rattle.fold_program.specs.Steps.{Outcome, Then, Answers}
+use Rattle.fold_program.specs.Words.{IsPlain, HaveNoCommand, AreRefused}
+use Rattle.fold_program.specs.declared.status.Status.{Status}
+use Rattle.fold_program.specs.declared.status.Status.TheVariants.{Done, Text, Limit}
+use Rattle.fold_program.specs.declared.status.TextFault.TheVariants as text
+use Rattle.fold_program.specs.declared.status.Limit.TheVariants.{TooLong}
+use Rattle.fold_program.specs.declared.words.Command.{Command}
+use Rattle.fold_program.specs.declared.words.Command.TheVariants.{Show}
+use Rattle.fold_program.specs.declared.words.Format.{Format}
+use Rattle.fold_program.specs.declared.words.Format.TheVariants.{Cp}
+
+-- There are more bytes than a text may have.
+abbrev pub AreTooMany : List ℕ → Status → Type 0
+AreTooMany bytes status = (MOST_BYTES < length bytes) × (status ≡ Limit TooLong)
+
+-- There are as many bytes as a text may have, and these are they.
+abbrev pub AreWithin : List ℕ → List ℕ → Type 0
+AreWithin bytes given = (length bytes ≤ MOST_BYTES) × (given ≡ bytes)
+
+-- The bytes are no CP text, and the status names their first fault.
+abbrev pub HasCpFault : List ℕ → Status → Type 0
+HasCpFault bytes status = (fault : CpFault) × NamesFirstFault bytes fault × (status ≡ Text (text.Cp fault))
+
+-- The text of a file, refused at its first fault, or else printed.
+abbrev pub Shows : Format → List ℕ → Outcome
+Shows Cp bytes = Then (HasCpFault bytes) (CpText bytes) (λ lines. Answers Done (printed lines))
+
+-- What a command makes of the bytes that it may take.
+abbrev pub Does : Command → List ℕ → Outcome
+Does (Show format) = Shows format
+
+-- The outcome of words and bytes: words of no command are refused, then too many bytes, and then the command decides.
+abbrev pub IsOutcome : List (List ℕ) → List ℕ → Outcome
+IsOutcome words bytes =
+    Then (AreRefused words) (IsPlain words) (λ command.
+    Then (AreTooMany bytes) (AreWithin bytes) (λ given.
+    Does command given))
+
+-- The bytes that the outcome is of: all that are left, or any where the words have no command.
+abbrev pub AreInput : List (List ℕ) → Option (List ℕ) → List ℕ → Type 0
+AreInput words left bytes = (left ≡ Some bytes) ⊎ HaveNoCommand words
+
+-- The status is the outcome, and its text was written and nothing else.
+abbrev pub Ends : List (List ℕ) → List ℕ → Option (List ℕ) → Option (List ℕ) → Status → Type 0
+Ends words bytes before after status = (text : List ℕ) × IsOutcome words bytes status text × Gains before after text
+
+-- A text was due, and a proper prefix of it was written.
+abbrev pub Breaks : List (List ℕ) → List ℕ → Option (List ℕ) → Option (List ℕ) → Type 0
+Breaks words bytes before after =
+    (due : Status) × (text : List ℕ) × IsAnswer due × IsOutcome words bytes due text × GainsPart before after text
+
+-- Words and bytes have one outcome: one status, and one text.
+abbrev pub HaveOneOutcome : List (List ℕ) → List ℕ → Type 0
+HaveOneOutcome words bytes = (s s' : Status) (t t' : List ℕ) → IsOutcome words bytes s t → IsOutcome words bytes s' t' → (s ≡ s') × (t ≡ t')

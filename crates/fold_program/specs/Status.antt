@@ -1,0 +1,50 @@
+-- What the program ends with.
+use Rattle.std.specs.Prelude.{ℕ}
+use Rattle.fold_base.specs.declared.pieces.ReadFault.{ReadFault}
+use Rattle.fold_base.specs.declared.pieces.ReadFault.TheVariants as read
+use Rattle.cp_lines.specs.declared.fault.CpReadFault.{CpReadFault}
+use Rattle.cp_lines.specs.declared.fault.CpReadFault.TheVariants as cp
+use Rattle.fold_program.specs.declared.status.Status.{Status}
+use Rattle.fold_program.specs.declared.status.Status.TheVariants.{Done, Text, Words, Read, Write, Limit, Memory}
+use Rattle.fold_program.specs.declared.status.TextFault.TheVariants.{Cp}
+use Rattle.fold_program.specs.declared.status.Limit.TheVariants.{TooLong}
+
+-- The exit status of the process.
+abbrev pub code_of : Status → ℕ
+code_of Done = 0
+code_of (Text fault) = 2
+code_of (Words cause) = 6
+code_of Read = 7
+code_of Write = 8
+code_of (Limit limit) = 9
+code_of Memory = 10
+
+-- A text is due.
+abbrev pub IsAnswer : Status → Type 0
+IsAnswer Done = Unit {0}
+IsAnswer _ = ⊥
+
+-- The words or the bytes are refused.
+abbrev pub IsRefusal : Status → Type 0
+IsRefusal (Text fault) = Unit {0}
+IsRefusal (Words cause) = Unit {0}
+IsRefusal (Limit limit) = Unit {0}
+IsRefusal _ = ⊥
+
+-- The outside or the memory failed, which no words and bytes decide.
+abbrev pub IsFailure : Status → Type 0
+IsFailure Read = Unit {0}
+IsFailure Write = Unit {0}
+IsFailure Memory = Unit {0}
+IsFailure _ = ⊥
+
+-- The status where the input can't be had whole.
+abbrev pub of_read : ReadFault → Status
+of_read read.Failed = Read
+of_read read.TooLong = Limit TooLong
+of_read (read.Memory error) = Memory
+
+-- The status where the input isn't read as CP text.
+abbrev pub of_cp : CpReadFault → Status
+of_cp (cp.Text fault) = Text (Cp fault)
+of_cp (cp.Memory error) = Memory

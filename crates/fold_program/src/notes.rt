@@ -1,0 +1,32 @@
+// What is said of a refusal or a failure.
+ghost use Rattle.std.specs.Prelude.{◌≡◌};
+ghost use Rattle.fold_program.specs.Status.{IsAnswer};
+ghost use Rattle.fold_program.specs.Notes.{GainsFront, note_line};
+
+use crate::status::Status;
+use fold_base::{Sink, write_all_bytes};
+use std::alloc::Global;
+
+/// Puts one line on a status that is no answer. The sink's faults are ignored, and a line that
+/// memory is wanting for is left out.
+pub fn note<E: Sink>(alloc: Global, status: &Status, notes: &mut E)
+    ensures quiet { IsAnswer status.now → notes.new ≡ notes.old }
+    ensures line { GainsFront (E.written notes.old) (E.written notes.new) (note_line status.now) }
+{
+    match status {
+        Status::Done => {}
+        // No memory is asked for to say that there is none.
+        Status::Memory => put_line(notes, "fold_program: memory\n"),
+        _ => {
+            if let Ok(line) = format!(in alloc; "fold_program: {status}\n") {
+                put_line(notes, line.as_str());
+            }
+        }
+    }
+}
+
+fn put_line<E: Sink>(notes: &mut E, line: &str)
+    ensures { GainsFront (E.written notes.old) (E.written notes.new) line.now }
+{
+    let _ = write_all_bytes(notes, line.as_bytes());
+}

@@ -1,0 +1,157 @@
+// The top call.
+ghost use Rattle.std.specs.Prelude.{◌≡◌, ◌≢◌, ◌⊎◌, ◌≤◌, ◌<◌, [], List, ℕ, Ok, Err, length, IfOk, IfErr, IfSome};
+ghost use Rattle.fold_base.specs.Outside.{Rose};
+ghost use Rattle.fold_program.specs.Status.{IsAnswer, IsFailure, IsRefusal};
+ghost use Rattle.fold_program.specs.Steps.{Follows};
+ghost use Rattle.fold_program.specs.Words.{texts, HaveNoCommand};
+ghost use Rattle.fold_program.specs.Notes.{GainsFront, note_line};
+ghost use Rattle.fold_program.specs.Outcome.{Does, IsOutcome, AreInput, Ends, Breaks, HaveOneOutcome};
+
+use crate::notes::note;
+use crate::output::Output;
+use crate::show::show;
+use crate::status::Status;
+use crate::words::{Command, read_words};
+use cp_lines::one_reading;
+use fold_base::{
+    CalmSink, CalmSource, List, MOST_BYTES, ReadFault, Sink, Source, read_pieces, write_all_bytes,
+};
+use std::alloc::Global;
+
+/// Does what the words say with the bytes of the source.
+///
+/// The output is built whole before the first byte of it is put. One line goes to `notes` where
+/// the status is another than `Done`.
+pub fn run<S: Source, T: Sink, E: Sink>(
+    alloc: Global,
+    words: &[String],
+    source: &mut S,
+    sink: &mut T,
+    notes: &mut E,
+) -> Status
+    // The status is the outcome of the words and all the bytes, also where a count rose, and its
+    // text was written and nothing else.
+    ensures outcome { (bytes : List ℕ) → AreInput (texts words.now) (S.left source.old) bytes →
+        IsFailure result
+        ⊎ Ends (texts words.now) bytes (T.written sink.old) (T.written sink.new) result }
+
+    // Where writing fails, a text was due, and a proper prefix of it was written.
+    ensures broken { result ≡ Status.Write →
+        (bytes : List ℕ) → AreInput (texts words.now) (S.left source.old) bytes →
+        Breaks (texts words.now) bytes (T.written sink.old) (T.written sink.new) }
+
+    // Reading and writing fail only from outside.
+    ensures read { result ≡ Status.Read → Rose (S.faults source.old) (S.faults source.new) }
+    ensures write { result ≡ Status.Write → Rose (T.faults sink.old) (T.faults sink.new) }
+
+    // Nothing is touched without need.
+    ensures silent { IsRefusal result ⊎ ((result ≡ Status.Read) ⊎ (result ≡ Status.Memory)) →
+        sink.new ≡ sink.old }
+    ensures unread { HaveNoCommand (texts words.now) → source.new ≡ source.old }
+    ensures no_read { HaveNoCommand (texts words.now) → result ≢ Status.Read }
+
+    // Notes get at most the line on the status, and none on an answer.
+    ensures quiet { IsAnswer result → notes.new ≡ notes.old }
+    ensures noted { GainsFront (E.written notes.old) (E.written notes.new) (note_line result) }
+
+    // Where nothing failed outside, the status is the outcome, or memory is wanting.
+    ensures complete { ¬ (Rose (S.faults source.old) (S.faults source.new)) →
+        ¬ (Rose (T.faults sink.old) (T.faults sink.new)) →
+        (bytes : List ℕ) → AreInput (texts words.now) (S.left source.old) bytes →
+        (result ≡ Status.Memory)
+        ⊎ Ends (texts words.now) bytes (T.written sink.old) (T.written sink.new) result }
+{
+    let status = perform(alloc, words, source, sink);
+    note(alloc, &status, notes);
+    status
+}
+
+/// Over a source and a sink that never fail, the status is the outcome, or memory is wanting.
+pub fn run_calm<E: Sink>(
+    alloc: Global,
+    words: &[String],
+    bytes: List<u8>,
+    piece: u32,
+    notes: &mut E,
+) -> Status
+    ensures { (result ≡ Status.Memory)
+        ⊎ ((text : List ℕ) × IsOutcome (texts words.now) bytes result text) }
+{
+    let mut source = CalmSource::new(bytes, piece);
+    run(alloc, words, &mut source, &mut CalmSink::new(), notes)
+}
+
+/// Words and bytes have one outcome.
+pub fn one_outcome()
+    ensures { (words : List (List ℕ)) (bytes : List ℕ) → HaveOneOutcome words bytes }
+{
+    one_reading();
+}
+
+/// All but the notes.
+fn perform<S: Source, T: Sink>(
+    alloc: Global,
+    words: &[String],
+    source: &mut S,
+    sink: &mut T,
+) -> Status
+    ensures outcome { (bytes : List ℕ) → AreInput (texts words.now) (S.left source.old) bytes →
+        IsFailure result
+        ⊎ Ends (texts words.now) bytes (T.written sink.old) (T.written sink.new) result }
+    ensures broken { result ≡ Status.Write →
+        (bytes : List ℕ) → AreInput (texts words.now) (S.left source.old) bytes →
+        Breaks (texts words.now) bytes (T.written sink.old) (T.written sink.new) }
+    ensures read { result ≡ Status.Read → Rose (S.faults source.old) (S.faults source.new) }
+    ensures write { result ≡ Status.Write → Rose (T.faults sink.old) (T.faults sink.new) }
+    ensures silent { IsRefusal result ⊎ ((result ≡ Status.Read) ⊎ (result ≡ Status.Memory)) →
+        sink.new ≡ sink.old }
+    ensures unread { HaveNoCommand (texts words.now) → source.new ≡ source.old }
+    ensures no_read { HaveNoCommand (texts words.now) → result ≢ Status.Read }
+{
+    match prepare(alloc, words, source) {
+        Err(status) => status,
+        Ok(output) => match write_all_bytes(sink, output.text.bytes()) {
+            Ok(()) => output.status,
+            Err(_) => Status::Write,
+        },
+    }
+}
+
+/// The text that is due, built whole.
+fn prepare<S: Source>(alloc: Global, words: &[String], source: &mut S) -> Result<Output, Status>
+    ensures outcome { (bytes : List ℕ) → AreInput (texts words.now) (S.left source.old) bytes →
+        (result ≡ Err Status.Read) ⊎ Follows (IsOutcome (texts words.now) bytes) result }
+    ensures answer { IfOk result (λ output. IsAnswer output.status) }
+    ensures cause { IfErr result (λ status.
+        IsRefusal status ⊎ ((status ≡ Status.Read) ⊎ (status ≡ Status.Memory))) }
+    ensures read { result ≡ Err Status.Read → Rose (S.faults source.old) (S.faults source.new) }
+    ensures unread { HaveNoCommand (texts words.now) → source.new ≡ source.old }
+    ensures no_read { HaveNoCommand (texts words.now) → result ≢ Err Status.Read }
+{
+    let command = read_words(words)?;
+    let bytes = read_all(alloc, source)?;
+    apply(alloc, command, bytes.as_slice())
+}
+
+/// All the bytes that the source has left.
+fn read_all<S: Source>(alloc: Global, source: &mut S) -> Result<List<u8>, ReadFault>
+    ensures all { IfOk result (λ text. IfSome (S.left source.old) (λ bytes. text ≡ bytes)) }
+    ensures within { IfOk result (λ text. length text ≤ MOST_BYTES) }
+    ensures too_long { result ≡ Err ReadFault.TooLong →
+        IfSome (S.left source.old) (λ bytes. MOST_BYTES < length bytes) }
+    ensures failed { result ≡ Err ReadFault.Failed →
+        Rose (S.faults source.old) (S.faults source.new) }
+{
+    let mut text = List::new(alloc);
+    read_pieces(source, &mut text)?;
+    Ok(text)
+}
+
+fn apply(alloc: Global, command: Command, bytes: &[u8]) -> Result<Output, Status>
+    requires { length bytes.now ≤ MOST_BYTES }
+    ensures { Follows (Does command bytes.now) result }
+{
+    match command {
+        Command::Show(format) => show(alloc, format, bytes),
+    }
+}

@@ -1,0 +1,164 @@
+// What the program ends with.
+ghost use Rattle.std.specs.Prelude.{◌≡◌};
+
+use cp_lines::{CpFault, CpReadFault};
+use fold_base::ReadFault;
+use std::alloc::AllocError;
+use std::fmt;
+
+#[derive(Debug, PartialEq, Eq, Drop)]
+pub enum Status {
+    /// The text that the words ask for was written whole.
+    Done,
+    Text(TextFault),
+    Words(WordsCause),
+    /// The input can't be read to its end.
+    Read,
+    /// The output can't be written to its end.
+    Write,
+    Limit(Limit),
+    /// Memory was refused. Nothing was written.
+    Memory,
+}
+
+/// Where the input stops to be of its format.
+#[derive(Clone, Copy, Debug, PartialEq, Eq)]
+pub enum TextFault {
+    Cp(CpFault),
+}
+
+#[derive(Clone, Copy, Debug, PartialEq, Eq)]
+pub enum WordsCause {
+    /// They are the words of no command.
+    Refused,
+}
+
+#[derive(Clone, Copy, Debug, PartialEq, Eq)]
+pub enum Limit {
+    /// The input has more than `MOST_BYTES` bytes.
+    TooLong,
+}
+
+impl Status {
+    ghost use Rattle.fold_program.specs.Status.{code_of};
+
+    /// The exit status of the process.
+    pub fn code(&self) -> u8
+        ensures { result ≡ code_of self.now }
+    {
+        match self {
+            Status::Done => 0,
+            Status::Text(_) => 2,
+            Status::Words(_) => 6,
+            Status::Read => 7,
+            Status::Write => 8,
+            Status::Limit(_) => 9,
+            Status::Memory => 10,
+        }
+    }
+}
+
+impl From<AllocError> for Status {
+    ghost use Rattle.fold_program.specs.declared.status.Status.TheVariants.{Memory};
+
+    ghost from_gives = { λ _ status. status ≡ Memory };
+
+    fn from(_: AllocError) -> Status {
+        Status::Memory
+    }
+}
+
+impl From<ReadFault> for Status {
+    ghost use Rattle.fold_program.specs.Status.{of_read};
+
+    ghost from_gives = { λ fault status. status ≡ of_read fault };
+
+    fn from(fault: ReadFault) -> Status {
+        match fault {
+            ReadFault::Failed => Status::Read,
+            ReadFault::TooLong => Status::Limit(Limit::TooLong),
+            ReadFault::Memory(_) => Status::Memory,
+        }
+    }
+}
+
+impl From<CpReadFault> for Status {
+    ghost use Rattle.fold_program.specs.Status.{of_cp};
+
+    ghost from_gives = { λ fault status. status ≡ of_cp fault };
+
+    fn from(fault: CpReadFault) -> Status {
+        match fault {
+            CpReadFault::Text(fault) => Status::Text(TextFault::Cp(fault)),
+            CpReadFault::Memory(_) => Status::Memory,
+        }
+    }
+}
+
+impl From<WordsCause> for Status {
+    ghost use Rattle.fold_program.specs.declared.status.Status.TheVariants.{Words};
+
+    ghost from_gives = { λ cause status. status ≡ Words cause };
+
+    fn from(cause: WordsCause) -> Status {
+        Status::Words(cause)
+    }
+}
+
+impl fmt::Display for Status {
+    ghost use Rattle.std.specs.Prelude.{Some};
+    ghost use Rattle.fold_program.specs.Notes.{message};
+
+    ghost output = { λ status. Some (message status) };
+
+    fn fmt<W: fmt::Write>(&self, f: &mut fmt::Formatter<W>) -> fmt::Result {
+        match self {
+            Status::Done => f.write_str("done"),
+            Status::Text(fault) => write!(f, "{fault}"),
+            Status::Words(cause) => write!(f, "{cause}"),
+            Status::Read => f.write_str("read failed"),
+            Status::Write => f.write_str("write failed"),
+            Status::Limit(limit) => write!(f, "{limit}"),
+            Status::Memory => f.write_str("memory"),
+        }
+    }
+}
+
+impl fmt::Display for TextFault {
+    ghost use Rattle.std.specs.Prelude.{Some};
+    ghost use Rattle.fold_program.specs.Notes.{text_message};
+
+    ghost output = { λ fault. Some (text_message fault) };
+
+    fn fmt<W: fmt::Write>(&self, f: &mut fmt::Formatter<W>) -> fmt::Result {
+        match self {
+            TextFault::Cp(fault) => write!(f, "{fault}"),
+        }
+    }
+}
+
+impl fmt::Display for WordsCause {
+    ghost use Rattle.std.specs.Prelude.{Some};
+    ghost use Rattle.fold_program.specs.Notes.{words_message};
+
+    ghost output = { λ cause. Some (words_message cause) };
+
+    fn fmt<W: fmt::Write>(&self, f: &mut fmt::Formatter<W>) -> fmt::Result {
+        f.write_str(match self {
+            WordsCause::Refused => "words refused",
+        })
+    }
+}
+
+impl fmt::Display for Limit {
+    ghost use Rattle.std.specs.Prelude.{Some};
+    ghost use Rattle.fold_program.specs.Notes.{limit_message};
+
+    ghost output = { λ limit. Some (limit_message limit) };
+
+    fn fmt<W: fmt::Write>(&self, f: &mut fmt::Formatter<W>) -> fmt::Result {
+        f.write_str(match self {
+            Limit::TooLong => "too long",
+        })
+    }
+}

@@ -1,0 +1,212 @@
+use crate::run::{run, run_calm};
+use crate::status::{Limit, Status, TextFault, WordsCause};
+use cp_lines::{CpCause, CpFault};
+use fold_base::{CalmSink, List, MemorySink, MemorySource};
+use std::alloc::{AllocError, Global};
+use std::process::Abort;
+use std::test::Fail;
+
+const SHOW: &[&str] = &["show", "--from=cp"];
+
+const SHOWN: &[u8] = b"1  0 0\t1 0\r\n\r\n3 0 0 1 1";
+
+const PRINTED: &[u8] = b"1 0 0 1 0\n3 0 0 1 1\n";
+
+fn strings(alloc: Global, words: &[&str]) -> Result<Vec<String>, AllocError> {
+    let mut strings = Vec::new(alloc);
+    for word in words {
+        strings.push(String::from_str(alloc, word)?)?;
+    }
+    Ok(strings)
+}
+
+/// A run, its outside, and what is to come of it.
+#[derive(Drop)]
+struct Row<'a> {
+    words: &'a [&'a str],
+    input: &'a [u8],
+    /// The most bytes that are taken and put in a call.
+    pieces: (u32, u32),
+    failing_takes: &'a [u64],
+    failing_puts: &'a [u64],
+    status: Status,
+    output: &'a [u8],
+    notes: &'a [u8],
+}
+
+/// Input that is shown with no fault outside.
+fn shown<'a>(input: &'a [u8], output: &'a [u8]) -> Row<'a> {
+    Row {
+        words: SHOW,
+        input,
+        pieces: (4096, 4096),
+        failing_takes: &[],
+        failing_puts: &[],
+        status: Status::Done,
+        output,
+        notes: b"",
+    }
+}
+
+/// Input that is refused at its first fault.
+fn faulty<'a>(input: &'a [u8], fault: (u32, u32, CpCause), notes: &'a [u8]) -> Row<'a> {
+    let (line, column, cause) = fault;
+    Row {
+        status: Status::Text(TextFault::Cp(CpFault {
+            line,
+            column,
+            cause,
+        })),
+        notes,
+        ..shown(input, b"")
+    }
+}
+
+/// Words that are refused. A source that is asked for bytes fails.
+fn refused<'a>(words: &'a [&'a str]) -> Row<'a> {
+    Row {
+        words,
+        failing_takes: &[1],
+        status: Status::Words(WordsCause::Refused),
+        notes: b"fold_program: words refused\n",
+        ..shown(SHOWN, b"")
+    }
+}
+
+fn check(rt: &impl Abort, alloc: Global, row: Row<'_>) -> Result<(), AllocError> {
+    let input = List::from_slice(alloc, row.input)?;
+    let failing_takes = List::from_slice(alloc, row.failing_takes)?;
+    let failing_puts = List::from_slice(alloc, row.failing_puts)?;
+    let mut source = MemorySource::new(input, row.pieces.0, failing_takes);
+    let mut sink = MemorySink::new(alloc, row.pieces.1, failing_puts, 100)?;
+    let mut notes = MemorySink::new(alloc, 100, List::new(alloc), 100)?;
+    let words = strings(alloc, row.words)?;
+    let status = run(alloc, &words, &mut source, &mut sink, &mut notes);
+    assert_eq!(rt; status, row.status);
+    assert_eq!(rt; sink.bytes(), row.output);
+    assert_eq!(rt; notes.bytes(), row.notes);
+    Ok(())
+}
+
+#[test]
+fn shows_cp_text(rt: HostRuntime) -> Result<(), Fail> {
+    for row in [shown(b"", b""), shown(SHOWN, PRINTED)] {
+        check(&rt, rt.alloc(), row)?;
+    }
+    Ok(())
+}
+
+#[test]
+fn names_the_first_fault(rt: HostRuntime) -> Result<(), Fail> {
+    use CpCause::{Byte, Ended};
+    let rows = [
+        faulty(
+            b"2 0 0 1\n",
+            (1, 8, Byte),
+            b"fold_program: cp fault at line 1 column 8: byte\n",
+        ),
+        faulty(
+            b"2 0 0 1",
+            (1, 8, Ended),
+            b"fold_program: cp fault at line 1 column 8: ended\n",
+        ),
+        faulty(
+            b"1 0 0 1 1\n5 0 0 1 1",
+            (2, 1, Byte),
+            b"fold_program: cp fault at line 2 column 1: byte\n",
+        ),
+        faulty(
+            b"1 0 0 1 01",
+            (1, 10, Byte),
+            b"fold_program: cp fault at line 1 column 10: byte\n",
+        ),
+        faulty(
+            b"1 0 0 1.5 0",
+            (1, 8, Byte),
+            b"fold_program: cp fault at line 1 column 8: byte\n",
+        ),
+    ];
+    for row in rows {
+        check(&rt, rt.alloc(), row)?;
+    }
+    Ok(())
+}
+
+#[test]
+fn refuses_other_words(rt: HostRuntime) -> Result<(), Fail> {
+    let rows: [&[&str]; 6] = [
+        &[],
+        &["show"],
+        &["show", "--from=fold"],
+        &["--from=cp", "show"],
+        &["Show", "--from=cp"],
+        &["show", "--from=cp", "--from=cp"],
+    ];
+    for words in rows {
+        check(&rt, rt.alloc(), refused(words))?;
+    }
+    Ok(())
+}
+
+#[test]
+fn tells_faults_outside(rt: HostRuntime) -> Result<(), Fail> {
+    let read_failed = Row {
+        pieces: (2, 4096),
+        failing_takes: &[2],
+        status: Status::Read,
+        notes: b"fold_program: read failed\n",
+        ..shown(SHOWN, b"")
+    };
+    check(&rt, rt.alloc(), read_failed)?;
+    let read_failed_after_a_fault = Row {
+        pieces: (1, 4096),
+        failing_takes: &[2],
+        status: Status::Read,
+        notes: b"fold_program: read failed\n",
+        ..shown(b"9 0", b"")
+    };
+    check(&rt, rt.alloc(), read_failed_after_a_fault)?;
+    let write_failed = Row {
+        pieces: (4096, 4),
+        failing_puts: &[2],
+        status: Status::Write,
+        notes: b"fold_program: write failed\n",
+        ..shown(SHOWN, b"1 0 ")
+    };
+    check(&rt, rt.alloc(), write_failed)?;
+    Ok(())
+}
+
+#[test]
+fn takes_as_many_bytes_as_a_text_may_have(rt: HostRuntime) -> Result<(), Fail> {
+    let alloc = rt.alloc();
+    let words = strings(alloc, SHOW)?;
+    for (len, status) in [
+        (16_777_216, Status::Done),
+        (16_777_217, Status::Limit(Limit::TooLong)),
+    ] {
+        let blanks = List::from_vec(vec![in alloc; b' '; len]?);
+        let mut source = MemorySource::new(blanks, 4096, List::new(alloc));
+        let mut sink = MemorySink::new(alloc, 1, List::new(alloc), 1)?;
+        let answer = run(alloc, &words, &mut source, &mut sink, &mut CalmSink::new());
+        assert_eq!(rt; answer, status, "{len} blanks");
+        assert_eq!(rt; sink.bytes(), b"".as_slice(), "{len} blanks");
+    }
+    Ok(())
+}
+
+#[test]
+fn ignores_faults_of_notes(rt: HostRuntime) -> Result<(), Fail> {
+    let alloc = rt.alloc();
+    let mut notes = MemorySink::new(alloc, 4, List::new(alloc), 5)?;
+    let status = run_calm(
+        alloc,
+        &strings(alloc, &["fly"])?,
+        List::new(alloc),
+        1,
+        &mut notes,
+    );
+    assert_eq!(rt; status, Status::Words(WordsCause::Refused));
+    assert_eq!(rt; notes.bytes(), b"fold_".as_slice());
+    Ok(())
+}
