@@ -1,18 +1,17 @@
 -- An outcome is the only one.
-use Rattle.std.proofs.Common.{◌≡◌, ℕ, List, [], inl, inr, refl, sym, ◌∙◌, ap, subst, arith}
+use Rattle.std.proofs.Common.{◌≡◌, ℕ, List, inl, inr, refl, sym, ◌∙◌, ap, subst, arith}
 use Rattle.cp_lines.specs.CpText.{CpText}
 use Rattle.cp_lines.specs.Reads.{NamesFirstFault}
 use Rattle.cp_lines.specs.declared.line.CpLine.{CpLine}
 use Rattle.cp_lines.specs.declared.fault.CpFault.{CpFault}
 use Rattle.fold_program.specs.Steps.{Outcome, Then, Answers}
 use Rattle.fold_program.specs.Words.{IsPlain, AreRefused}
-use Rattle.fold_program.specs.Outcome.{AreTooMany, AreWithin, HasCpFault, Shows, Does, HaveOneOutcome}
+use Rattle.fold_program.specs.Outcome.{AreTooMany, AreWithin, HasCpFault, Does, HaveOneOutcome}
 use Rattle.fold_program.specs.declared.status.Status.{Status}
 use Rattle.fold_program.specs.declared.status.Status.TheVariants.{Text}
 use Rattle.fold_program.specs.declared.status.TextFault.TheVariants as text
 use Rattle.fold_program.specs.declared.words.Command.{Command}
 use Rattle.fold_program.specs.declared.words.Command.TheVariants.{Show}
-use Rattle.fold_program.specs.declared.words.Format.{Format}
 use Rattle.fold_program.specs.declared.words.Format.TheVariants.{Cp}
 
 -- One status and one text.
