@@ -1,6 +1,6 @@
 -- |a| + m |b| is a size of the numbers a + b√k, where k is at most m².
 use Prim.Native.Nat.{ℕ, ◌+◌, ◌*◌, ◌≤◌, ◌<◌, ◌^◌}
-use mathlib.Core.Path.{sym, ap, subst}
+use mathlib.Core.Path.{ap}
 use native.Mathlib.Nat.{mul-le-mul_right, mul-le-mul_left}
 use native.Mathlib.Omega.{arith}
 use lib.IntN.{ℤ, pos, ◌+ℤ◌, ◌-ℤ◌, ◌*ℤ◌, neg_ℤ}
@@ -9,7 +9,6 @@ use Rattle.std.proofs.lemmas.Int.{ints, unsigned_abs-mul}
 use Rattle.algebra.specs.Integers.{int_ops}
 use Rattle.algebra.specs.Size.{IsSize}
 use Rattle.algebra.specs.Surd.{Surd, surd_ops}
-use Rattle.algebra.specs.WholeSurds.{SurdNumbers}
 use Rattle.algebra.specs.SurdSize.{surd_size, larger_part, ComparesIn128Bits}
 use Rattle.algebra.specs.declared.plane.Point.{Point}
 use Rattle.algebra.specs.Plane.{IsWithin, crossing, right_of}
@@ -47,18 +46,6 @@ module _ (k m : ℕ) (k_at_most : k ≤ m * m) where
     size_sub = λ x y. omega (arith, difference_bound x.a y.a, mul-le-mul_left m (difference_bound x.b y.b));
     size_mul = λ x y. omega (arith, first_bound x y, mul-le-mul_left m (second_bound x y));
   }
-
--- so it is of any type that holds them
-pub whole_sized : {C : Type 0} (k m : ℕ) (surd : C → Surd ℤ) (N : SurdNumbers k surd) → k ≤ m * m → IsSize N.ring.ops (λ x. surd_size m (surd x))
-whole_sized k m surd N h =
-    let S = surd_sized k m h in
-    record {
-      size_int = λ n. subst (λ z. surd_size m z ≤ unsigned_abs n) (sym (N.whole_is n)) (S.size_int n);
-      size_neg = λ x. subst (λ z. surd_size m z ≤ surd_size m (surd x)) (sym (N.opposite_is x)) (S.size_neg (surd x));
-      size_add = λ x y. subst (λ z. surd_size m z ≤ surd_size m (surd x) + surd_size m (surd y)) (sym (N.sum_is x y)) (S.size_add (surd x) (surd y));
-      size_sub = λ x y. subst (λ z. surd_size m z ≤ surd_size m (surd x) + surd_size m (surd y)) (sym (N.difference_is x y)) (S.size_sub (surd x) (surd y));
-      size_mul = λ x y. subst (λ z. surd_size m z ≤ surd_size m (surd x) * surd_size m (surd y)) (sym (N.product_is x y)) (S.size_mul (surd x) (surd y));
-    }
 
 -- a part that is no larger than n
 within_parts : (n : ℕ) (p : Point (Surd ℤ)) → IsWithin larger_part n p → IsWithin (surd_size 2) (3 * n) p

@@ -12,7 +12,7 @@ pub use fields::{
 };
 pub use lines::{
     comparison_fits, crossing_on_lines, crossings_compared, left_of_line, orientation_turned,
-    points_in_line, size_laws, whole_number_sizes,
+    points_in_line, size_laws,
 };
 pub use number::Number;
 pub use plane::{Point, turn};

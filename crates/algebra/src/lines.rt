@@ -1,11 +1,10 @@
-ghost use Rattle.std.specs.Prelude.{◌≡◌, ℕ, ℤ, pos, ◌≤◌, ◌*◌, unsigned_abs};
+ghost use Rattle.std.specs.Prelude.{◌≡◌, ℕ, pos, ◌≤◌, ◌*◌, unsigned_abs};
 ghost use Rattle.std.specs.declared.cmp.Ordering.TheVariants.{Equal, Greater};
 ghost use Rattle.algebra.specs.OrderedRing.{OrderedRing};
 ghost use Rattle.algebra.specs.Size.{IsSize};
 ghost use Rattle.algebra.specs.Plane.{orientation, orientation_at, point_between, crossing, right_of, further_along, determinant};
 ghost use Rattle.algebra.specs.Integers.{int_ops};
-ghost use Rattle.algebra.specs.Surd.{Surd, surd_ops};
-ghost use Rattle.algebra.specs.WholeSurds.{SurdNumbers};
+ghost use Rattle.algebra.specs.Surd.{surd_ops};
 ghost use Rattle.algebra.specs.SurdSize.{surd_size, ComparesIn128Bits};
 
 use crate::plane::Point;
@@ -58,12 +57,6 @@ pub fn left_of_line<T>()
 pub fn size_laws()
     ensures whole { IsSize int_ops unsigned_abs }
     ensures surd { (k m : ℕ) → k ≤ m * m → IsSize (surd_ops int_ops (pos k)) (surd_size m) }
-{}
-
-/// In a type that holds the numbers a+b√k with whole a and b, a number has the size |a| + m·|b|, where k is at most m².
-pub fn whole_number_sizes<T>()
-    ensures { (k m : ℕ) (surd : T → Surd ℤ) (N : SurdNumbers k surd) → k ≤ m * m
-        → IsSize N.ring.ops (λ (x : T). surd_size m (surd x)) }
 {}
 
 /// Which of two crossings on one line lies further right is computed within 128 bits, where the coordinates are numbers

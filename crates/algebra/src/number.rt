@@ -9,7 +9,7 @@ pub trait Number: Copy {
     // what the operations compute, without bounds, and its laws
     ghost ring: { OrderedRing Self };
 
-    // how large a number is: a sum is computed within the sum of the sizes, a product within their product
+    // no whole number that the operations compute on the way is larger
     ghost size: { Self → ℕ };
 
     /// The sum.
