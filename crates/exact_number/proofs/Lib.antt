@@ -1,0 +1,5 @@
+pub mod ExactParts
+pub mod Answered
+pub mod NegatedForms
+pub mod WholeSizes
+pub mod Scaled

@@ -1,0 +1,2 @@
+pub mod WideForms
+pub mod Scaling
