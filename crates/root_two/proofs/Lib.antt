@@ -1,0 +1,5 @@
+pub mod Descents
+pub mod Signs
+pub mod Forms
+pub mod Numbers
+pub mod Quotients
