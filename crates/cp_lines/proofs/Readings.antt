@@ -1,7 +1,8 @@
 -- A text has one reading: one list of lines, or one first fault.
 use Rattle.std.proofs.Common.{◌≡◌, ℕ, ◌⊎◌, List, take, refl, sym, ◌∙◌, ap, subst, inl, inr, Result, Ok, Err}
 use Rattle.first_fault.proofs.Faults.{one_fault, no_fault}
-use Rattle.first_fault.proofs.Machines.{one_value}
+use Rattle.first_fault.proofs.Machines.{one_value, accepted_or_fault}
+use Rattle.first_fault.specs.FirstFault as first
 use Rattle.cp_lines.specs.CpText.{CpText}
 use Rattle.cp_lines.specs.Machine.{step, finish, start}
 use Rattle.cp_lines.specs.Place.{line_at, column_at}
@@ -42,6 +43,13 @@ one_named text f g n m =
     (n.2 ∙ ap (λ p. line_at (take p text)) same.0 ∙ sym m.2)
     (n.3 ∙ ap (λ p. column_at (take p text)) same.0 ∙ sym m.3)
     (same_cause f.cause g.cause same.1)
+
+named : (text : List ℕ) (p : ℕ) (stop : first.Stop) → first.IsFirstFault CpText text p stop → (fault : CpFault) × NamesFirstFault text fault
+named text p first.Byte f = (record { line = line_at (take p text); column = column_at (take p text); cause = Byte }, (p, f, refl, refl))
+named text p first.Ended f = (record { line = line_at (take p text); column = column_at (take p text); cause = Ended }, (p, f, refl, refl))
+
+pub some_reading : (text : List ℕ) → ((lines : List CpLine) × CpText text lines) ⊎ ((fault : CpFault) × NamesFirstFault text fault)
+some_reading text = elim (accepted_or_fault CpText step finish start decides text) [ inl a ↦ inl a | inr f ↦ inr (named text f.0 f.1 f.2) ]
 
 -- what may be answered for a text that spells lines
 pub accepted_answer : (text : List ℕ) (lines : List CpLine) (answer : Result (List CpLine) CpReadFault) → CpText text lines → Reads text answer → (answer ≡ Ok lines) ⊎ LacksMemory answer

@@ -35,11 +35,12 @@ pub fn read_cp(alloc: Global, text: &[u8]) -> Result<List<CpLine>, CpReadFault>
     }
 }
 
-/// A text spells one list of lines at most. It has one first fault at most, and none where it spells lines.
+/// A text spells one list of lines or has one first fault, and not both.
 pub fn one_reading()
     ensures lines { (text : List ℕ) (v w : List CpLine) → CpText text v → CpText text w → v ≡ w }
     ensures fault { (text : List ℕ) (f g : CpFault) → NamesFirstFault text f → NamesFirstFault text g → f ≡ g }
     ensures either { (text : List ℕ) (v : List CpLine) (f : CpFault) → CpText text v → NamesFirstFault text f → ⊥ }
+    ensures some { (text : List ℕ) → ((lines : List CpLine) × CpText text lines) ⊎ ((fault : CpFault) × NamesFirstFault text fault) }
 {}
 
 fn read_text(alloc: Global, text: &[u8]) -> Result<Reading, AllocError>

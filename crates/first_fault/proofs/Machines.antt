@@ -1,8 +1,8 @@
 -- What the answer of a machine says of a text, where the machine decides a grammar.
-use Rattle.std.proofs.Common.{◌≡◌, ℕ, ◌+◌, ◌<◌, List, [], ◌∷◌, ◌++◌, length, take, get_or, refl, sym, ◌∙◌, ap, subst, append_assoc, arith, Option, Some, None, IsTrue}
+use Rattle.std.proofs.Common.{◌≡◌, ℕ, ◌+◌, ◌<◌, List, [], ◌∷◌, ◌++◌, length, take, get_or, refl, sym, ◌∙◌, ap, subst, append_assoc, arith, Option, Some, None, IsTrue, ◌⊎◌, inl, inr, length-append}
 use Rattle.std.specs.Prelude.{option_and_then, is_some, ◌↔◌}
-use Rattle.std.proofs.lemmas.List.{append-nil, take_more, take_all}
-use Rattle.first_fault.specs.FirstFault.{IsAccepted, Begins, IsFirstFault, Byte, Ended}
+use Rattle.std.proofs.lemmas.List.{append-nil, take_more, take_all, take_at}
+use Rattle.first_fault.specs.FirstFault.{IsAccepted, Begins, IsFirstFault, HasFirstFault, Byte, Ended}
 use Rattle.first_fault.specs.Machine.{steps, answer, Decides}
 
 module _ {S : Type 0} (step : S → ℕ → Option S) where
@@ -45,6 +45,29 @@ module _ {S V : Type 0} (Spells : List ℕ → V → Type 0) (step : S → ℕ �
     subst (Begins Spells) (sym (take_all (length text) text (omega arith))) (d.alive text s e),
     (λ a. let whole = d.complete text a.0 a.1 in let stopped = ap (option_and_then finish) e ∙ n in cc),
   )
+
+  stops_after : (front rest : List ℕ) (b : ℕ) (s : S) → steps step start front ≡ Some s → step s b ≡ None → IsFirstFault Spells (front ++ b ∷ rest) (length front) Byte
+  stops_after front rest b s e n =
+      let before : take (length front) (front ++ b ∷ rest) ≡ front = take_at front (b ∷ rest) (length front) refl in
+      let after : take (length front + 1) (front ++ b ∷ rest) ≡ front ++ b ∷ [] =
+      ap (take (length front + 1)) (sym (append_assoc front (b ∷ []) rest)) ∙ take_at (front ++ b ∷ []) rest (length front + 1) (length-append front (b ∷ [])) in
+      (omega (arith, length-append front (b ∷ rest)), rw before (d.alive front s e), rw after (begins_not (front ++ b ∷ []) (steps-snoc step start s front b e ∙ n)))
+
+  reads_on : (front rest : List ℕ) (s : S) → steps step start front ≡ Some s → IsAccepted Spells (front ++ rest) ⊎ HasFirstFault Spells (front ++ rest)
+  reads_on front [] s e = rw append-nil
+      ((elim (finish s) as (λ o. finish s ≡ o → IsAccepted Spells front ⊎ HasFirstFault Spells front) [
+        | None ↦ λ n. inr (length front, Ended, fault_at_end front s e n)
+        | Some v ↦ λ n. inl (v, d.sound front s v e n)
+      ]) refl)
+  reads_on front (b ∷ rest) s e =
+      (elim (step s b) as (λ o. step s b ≡ o → IsAccepted Spells (front ++ b ∷ rest) ⊎ HasFirstFault Spells (front ++ b ∷ rest)) [
+        | None ↦ λ n. inr (length front, Byte, stops_after front rest b s e n)
+        | Some next ↦ λ n. rw (← append_assoc front (b ∷ []) rest) (reads_on (front ++ b ∷ []) rest next (steps-snoc step start s front b e ∙ n))
+      ]) refl
+
+  -- a text is accepted or has a first fault
+  pub accepted_or_fault : (text : List ℕ) → IsAccepted Spells text ⊎ HasFirstFault Spells text
+  accepted_or_fault text = reads_on [] text start refl
 
   pub one_value : (text : List ℕ) (v w : V) → Spells text v → Spells text w → v ≡ w
   one_value text v w a b = let e = d.complete text v a in let f = d.complete text w b in cc

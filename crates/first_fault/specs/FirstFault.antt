@@ -18,3 +18,7 @@ pub data Stop : Type 0 where
 abbrev pub IsFirstFault : {V : Type 0} → (List ℕ → V → Type 0) → List ℕ → ℕ → Stop → Type 0
 IsFirstFault Spells text p Byte = (p < length text) × Begins Spells (take p text) × ¬ Begins Spells (take (p + 1) text)
 IsFirstFault Spells text p Ended = (p ≡ length text) × Begins Spells (take p text) × ¬ IsAccepted Spells text
+
+-- the text has a first fault
+abbrev pub HasFirstFault : {V : Type 0} → (List ℕ → V → Type 0) → List ℕ → Type 0
+HasFirstFault Spells text = (p : ℕ) × (stop : Stop) × IsFirstFault Spells text p stop

@@ -5,3 +5,4 @@ pub mod Plan
 pub mod Memory
 pub mod Calm
 pub mod Letter
+pub mod Streams

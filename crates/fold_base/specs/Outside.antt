@@ -1,11 +1,15 @@
 -- What a call does to the bytes that a source has left or that a sink was given, and to a count of faults.
-use Rattle.std.specs.Prelude.{◌≡◌, ◌↔◌, ℕ, ◌+◌, ◌-◌, ◌^◌, ◌<◌, ◌≤◌, min, List, [], ◌++◌, length, take, None, Some, Ok, Err, OnErr}
+use Rattle.std.specs.Prelude.{◌≡◌, ◌↔◌, ℕ, ◌+◌, ◌-◌, ◌^◌, ◌<◌, ◌≤◌, min, Bool, if◌then◌else◌, List, [], ◌++◌, length, take, None, Some, Ok, Err, OnErr}
 use Rattle.std.specs.declared.option.Option.{Option}
 use Rattle.std.specs.declared.result.Result.{Result}
 
 -- A count of 64 bits after one more: it stands still at its last value.
 abbrev pub one_more : ℕ → ℕ
 one_more count = min (count + 1) (2 ^ 64 - 1)
+
+-- A count of faults after a call.
+abbrev pub count_after : Bool → ℕ → ℕ
+count_after went_well count = if went_well then count else one_more count
 
 -- The count rose, or stands at its last value.
 abbrev pub Rose : ℕ → ℕ → Type 0

@@ -1,19 +1,18 @@
 -- How far a source was read.
-use Rattle.std.specs.Prelude.{◌≡◌, ℕ, ◌+◌, ◌≤◌, Ok, Err}
+use Rattle.std.specs.Prelude.{◌≡◌, ℕ, ◌+◌, ◌≤◌, List, [], length, Ok, Err}
 use Rattle.std.specs.declared.result.Result.{Result}
 use Rattle.fold_base.specs.declared.outside.TheConstants.{MOST_BYTES}
 use Rattle.fold_base.specs.declared.pieces.ReadFault.{ReadFault}
 use Rattle.fold_base.specs.declared.pieces.ReadFault.TheVariants.{Failed, TooLong, Memory}
 
--- So many bytes were taken: one past the limit exactly where the answer is TooLong, and else at most the limit.
-abbrev pub TakesUpTo : Result ℕ ReadFault → ℕ → Type 0
-TakesUpTo (Ok n) taken = (taken ≡ n) × (taken ≤ MOST_BYTES)
-TakesUpTo (Err Failed) taken = taken ≤ MOST_BYTES
-TakesUpTo (Err TooLong) taken = taken ≡ MOST_BYTES + 1
-TakesUpTo (Err (Memory e)) taken = taken ≤ MOST_BYTES
+-- These bytes were handed on, and the rest was taken after them. Too long is one byte past the limit in all, not all of it handed on.
+abbrev pub TakesUpTo : Result ℕ ReadFault → List ℕ → List ℕ → Type 0
+TakesUpTo (Ok n) handed rest = (length handed ≡ n) × (n ≤ MOST_BYTES) × (rest ≡ [])
+TakesUpTo (Err Failed) handed rest = (length handed ≤ MOST_BYTES) × (rest ≡ [])
+TakesUpTo (Err TooLong) handed rest = (length handed ≤ MOST_BYTES) × (length handed + length rest ≡ MOST_BYTES + 1)
+TakesUpTo (Err (Memory e)) handed rest = length handed + length rest ≤ MOST_BYTES
 
--- All that was taken was handed on.
-abbrev pub HandsAllOn : Result ℕ ReadFault → Type 0
-HandsAllOn (Ok n) = Unit {0}
-HandsAllOn (Err Failed) = Unit {0}
-HandsAllOn _ = ⊥
+-- The taker took each piece that it was handed.
+abbrev pub TookEach : Result ℕ ReadFault → Type 0
+TookEach (Err (Memory e)) = ⊥
+TookEach _ = Unit {0}

@@ -1,6 +1,6 @@
 -- The plan by which the calls of a source or a sink in memory fail.
-use Rattle.std.specs.Prelude.{ℕ, Bool, List, Contains, if◌then◌else◌}
-use Rattle.fold_base.specs.Outside.{one_more}
+use Rattle.std.specs.Prelude.{ℕ, Bool, List, Contains}
+use Rattle.fold_base.specs.Outside.{one_more, count_after}
 use Rattle.fold_base.specs.declared.plan.Plan.{Plan}
 
 -- No call was made yet.
@@ -14,4 +14,4 @@ FailsNext plan = Contains plan.failing (one_more plan.calls)
 -- One more call was made, and a fault is counted unless it went well.
 abbrev pub after_call : Bool → Plan → Plan
 after_call went_well plan =
-    record plan { calls = one_more plan.calls; faults = if went_well then plan.faults else one_more plan.faults }
+    record plan { calls = one_more plan.calls; faults = count_after went_well plan.faults }

@@ -80,6 +80,11 @@ impl<T> List<T> {
         self.items.is_empty()
     }
 
+    /// The allocator whose memory the list takes.
+    pub fn allocator(&self) -> Global {
+        *self.items.allocator()
+    }
+
     pub fn as_slice(&self) -> &[T]
         ensures { result.now ≡ self.now }
     {

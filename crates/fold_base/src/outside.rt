@@ -20,7 +20,7 @@ pub trait Source {
     /// The bytes that are left, where the source tells them.
     ghost left: { Self → Option (List ℕ) };
 
-    /// How often the source has failed. It never falls.
+    /// A count of faults. It never falls.
     ghost faults: { Self → ℕ };
 
     /// Moves bytes that are left into the front of the room. `Ok(0)` is the end of input.
@@ -40,7 +40,7 @@ pub trait Sink {
     /// The bytes that were written, where the sink tells them.
     ghost written: { Self → Option (List ℕ) };
 
-    /// How often the sink has failed. It never falls.
+    /// A count of faults. It never falls.
     ghost faults: { Self → ℕ };
 
     /// Appends the front of the bytes, at least one of them, and says how many.

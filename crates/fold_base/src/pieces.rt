@@ -1,7 +1,7 @@
 // A source read to its end, and bytes written whole.
-ghost use Rattle.std.specs.Prelude.{◌≡◌, ◌≤◌, ◌<◌, [], List, ℕ, length, IfOk, IfSome, OnOk, OnErr, Err};
+ghost use Rattle.std.specs.Prelude.{◌≡◌, ◌≤◌, ◌<◌, [], ◌++◌, List, ℕ, length, IfOk, IfSome, OnOk, OnErr, Err};
 ghost use Rattle.fold_base.specs.Outside.{HasCause, Rose, Gives, Gains, GainsPart, IsSpent};
-ghost use Rattle.fold_base.specs.Pieces.{TakesUpTo, HandsAllOn};
+ghost use Rattle.fold_base.specs.Pieces.{TakesUpTo, TookEach};
 
 use crate::outside::MOST_BYTES;
 use crate::{Failed, PieceTaker, Sink, Source};
@@ -44,9 +44,12 @@ pub fn read_pieces<S: Source, P: PieceTaker>(
     ensures whole { OnOk result (IfSome (S.left source.old) (P.has_taken taker.new)) }
     ensures end { OnOk result (IsSpent (S.left source.new)) }
 
-    // Whatever the answer is, the front of the bytes was taken, and the rest is left in its order.
-    ensures taken { (bytes : List ℕ) × Gives (S.left source.old) (S.left source.new) bytes
-        × TakesUpTo result (length bytes) × (HandsAllOn result → P.has_taken taker.new bytes) }
+    // Whatever the answer is, a front of the bytes was handed on, the rest of what was taken came
+    // next, and the others are left in their order.
+    ensures taken { (handed : List ℕ) × (rest : List ℕ)
+        × Gives (S.left source.old) (S.left source.new) (handed ++ rest)
+        × TakesUpTo result handed rest
+        × (TookEach result → P.has_taken taker.new handed × (P.count taker.new ≡ length handed)) }
 
     ensures later { S.faults source.old ≤ S.faults source.new }
     ensures failed { result ≡ Err ReadFault.Failed → Rose (S.faults source.old) (S.faults source.new) }

@@ -1,3 +1,4 @@
 pub mod Ending
+pub mod Exists
 pub mod TwoWords
 pub mod Unique

@@ -3,3 +3,4 @@ pub mod Steps
 pub mod Words
 pub mod Outcome
 pub mod Notes
+pub mod Taken

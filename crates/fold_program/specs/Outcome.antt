@@ -59,6 +59,10 @@ abbrev pub Breaks : List (List ℕ) → List ℕ → Option (List ℕ) → Optio
 Breaks words bytes before after =
     (due : Status) × (text : List ℕ) × IsAnswer due × IsOutcome words bytes due text × GainsPart before after text
 
--- Words and bytes have one outcome: one status, and one text.
+-- Words and bytes have an outcome.
+abbrev pub HaveOutcome : List (List ℕ) → List ℕ → Type 0
+HaveOutcome words bytes = (status : Status) × (text : List ℕ) × IsOutcome words bytes status text
+
+-- Words and bytes have one outcome at most: one status, and one text.
 abbrev pub HaveOneOutcome : List (List ℕ) → List ℕ → Type 0
 HaveOneOutcome words bytes = (s s' : Status) (t t' : List ℕ) → IsOutcome words bytes s t → IsOutcome words bytes s' t' → (s ≡ s') × (t ≡ t')

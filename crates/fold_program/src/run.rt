@@ -1,11 +1,12 @@
 // The top call.
-ghost use Rattle.std.specs.Prelude.{◌≡◌, ◌≢◌, ◌⊎◌, ◌≤◌, ◌<◌, [], List, ℕ, Ok, Err, length, IfOk, IfErr, IfSome};
-ghost use Rattle.fold_base.specs.Outside.{Rose};
-ghost use Rattle.fold_program.specs.Status.{IsAnswer, IsFailure, IsRefusal};
+ghost use Rattle.std.specs.Prelude.{◌≡◌, ◌≢◌, ◌⊎◌, ◌≤◌, ◌<◌, [], List, ℕ, Ok, Err, length, IfOk, IfErr, IfSome, OnOk};
+ghost use Rattle.fold_base.specs.Outside.{Rose, Gives, IsSpent};
+ghost use Rattle.fold_program.specs.Status.{IsAnswer, IsFailure, IsRefusal, of_read};
 ghost use Rattle.fold_program.specs.Steps.{Follows};
 ghost use Rattle.fold_program.specs.Words.{texts, HaveNoCommand};
 ghost use Rattle.fold_program.specs.Notes.{GainsFront, note_line};
-ghost use Rattle.fold_program.specs.Outcome.{Does, IsOutcome, AreInput, Ends, Breaks, HaveOneOutcome};
+ghost use Rattle.fold_program.specs.Outcome.{Does, IsOutcome, AreInput, Ends, Breaks, HaveOutcome, HaveOneOutcome};
+ghost use Rattle.fold_program.specs.Taken.{MayTake, TakesAll};
 
 use crate::notes::note;
 use crate::output::Output;
@@ -20,8 +21,8 @@ use std::alloc::Global;
 
 /// Does what the words say with the bytes of the source.
 ///
-/// The output is built whole before the first byte of it is put. One line goes to `notes` where
-/// the status is another than `Done`.
+/// The output is built whole before the first byte of it is put. At most one line goes to `notes`,
+/// where the status is another than `Done`.
 pub fn run<S: Source, T: Sink, E: Sink>(
     alloc: Global,
     words: &[String],
@@ -50,6 +51,12 @@ pub fn run<S: Source, T: Sink, E: Sink>(
     ensures unread { HaveNoCommand (texts words.now) → source.new ≡ source.old }
     ensures no_read { HaveNoCommand (texts words.now) → result ≢ Status.Read }
 
+    // No byte is taken after the first that is past the limit. What is read as a text is all that
+    // was left.
+    ensures taken { (bytes : List ℕ) × Gives (S.left source.old) (S.left source.new) bytes
+        × MayTake result (length bytes) }
+    ensures end { TakesAll result → IsSpent (S.left source.new) }
+
     // Notes get at most the line on the status, and none on an answer.
     ensures quiet { IsAnswer result → notes.new ≡ notes.old }
     ensures noted { GainsFront (E.written notes.old) (E.written notes.new) (note_line result) }
@@ -74,8 +81,10 @@ pub fn run_calm<E: Sink>(
     piece: u32,
     notes: &mut E,
 ) -> Status
-    ensures { (result ≡ Status.Memory)
+    ensures outcome { (result ≡ Status.Memory)
         ⊎ ((text : List ℕ) × IsOutcome (texts words.now) bytes result text) }
+    ensures quiet { IsAnswer result → notes.new ≡ notes.old }
+    ensures noted { GainsFront (E.written notes.old) (E.written notes.new) (note_line result) }
 {
     let mut source = CalmSource::new(bytes, piece);
     run(alloc, words, &mut source, &mut CalmSink::new(), notes)
@@ -83,7 +92,8 @@ pub fn run_calm<E: Sink>(
 
 /// Words and bytes have one outcome.
 pub fn one_outcome()
-    ensures { (words : List (List ℕ)) (bytes : List ℕ) → HaveOneOutcome words bytes }
+    ensures some { (words : List (List ℕ)) (bytes : List ℕ) → HaveOutcome words bytes }
+    ensures one { (words : List (List ℕ)) (bytes : List ℕ) → HaveOneOutcome words bytes }
 {
     one_reading();
 }
@@ -107,6 +117,9 @@ fn perform<S: Source, T: Sink>(
         sink.new ≡ sink.old }
     ensures unread { HaveNoCommand (texts words.now) → source.new ≡ source.old }
     ensures no_read { HaveNoCommand (texts words.now) → result ≢ Status.Read }
+    ensures taken { (bytes : List ℕ) × Gives (S.left source.old) (S.left source.new) bytes
+        × MayTake result (length bytes) }
+    ensures end { TakesAll result → IsSpent (S.left source.new) }
 {
     match prepare(alloc, words, source) {
         Err(status) => status,
@@ -127,6 +140,11 @@ fn prepare<S: Source>(alloc: Global, words: &[String], source: &mut S) -> Result
     ensures read { result ≡ Err Status.Read → Rose (S.faults source.old) (S.faults source.new) }
     ensures unread { HaveNoCommand (texts words.now) → source.new ≡ source.old }
     ensures no_read { HaveNoCommand (texts words.now) → result ≢ Err Status.Read }
+    ensures taken { (bytes : List ℕ) × Gives (S.left source.old) (S.left source.new) bytes
+        × OnOk result (length bytes ≤ MOST_BYTES)
+        × IfErr result (λ status. MayTake status (length bytes)) }
+    ensures end { OnOk result (IsSpent (S.left source.new)) }
+    ensures end_err { IfErr result (λ status. TakesAll status → IsSpent (S.left source.new)) }
 {
     let command = read_words(words)?;
     let bytes = read_all(alloc, source)?;
@@ -141,6 +159,10 @@ fn read_all<S: Source>(alloc: Global, source: &mut S) -> Result<List<u8>, ReadFa
         IfSome (S.left source.old) (λ bytes. MOST_BYTES < length bytes) }
     ensures failed { result ≡ Err ReadFault.Failed →
         Rose (S.faults source.old) (S.faults source.new) }
+    ensures taken { (bytes : List ℕ) × Gives (S.left source.old) (S.left source.new) bytes
+        × OnOk result (length bytes ≤ MOST_BYTES)
+        × IfErr result (λ fault. MayTake (of_read fault) (length bytes)) }
+    ensures end { OnOk result (IsSpent (S.left source.new)) }
 {
     let mut text = List::new(alloc);
     read_pieces(source, &mut text)?;

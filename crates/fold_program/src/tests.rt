@@ -29,6 +29,7 @@ struct Row<'a> {
     pieces: (u32, u32),
     failing_takes: &'a [u64],
     failing_puts: &'a [u64],
+    failing_notes: &'a [u64],
     status: Status,
     output: &'a [u8],
     notes: &'a [u8],
@@ -42,6 +43,7 @@ fn shown<'a>(input: &'a [u8], output: &'a [u8]) -> Row<'a> {
         pieces: (4096, 4096),
         failing_takes: &[],
         failing_puts: &[],
+        failing_notes: &[],
         status: Status::Done,
         output,
         notes: b"",
@@ -79,7 +81,8 @@ fn check(rt: &impl Abort, alloc: Global, row: Row<'_>) -> Result<(), AllocError>
     let failing_puts = List::from_slice(alloc, row.failing_puts)?;
     let mut source = MemorySource::new(input, row.pieces.0, failing_takes);
     let mut sink = MemorySink::new(alloc, row.pieces.1, failing_puts, 100)?;
-    let mut notes = MemorySink::new(alloc, 100, List::new(alloc), 100)?;
+    let failing_notes = List::from_slice(alloc, row.failing_notes)?;
+    let mut notes = MemorySink::new(alloc, 100, failing_notes, 100)?;
     let words = strings(alloc, row.words)?;
     let status = run(alloc, &words, &mut source, &mut sink, &mut notes);
     assert_eq!(rt; status, row.status);
@@ -198,6 +201,18 @@ fn takes_as_many_bytes_as_a_text_may_have(rt: HostRuntime) -> Result<(), Fail> {
 #[test]
 fn ignores_faults_of_notes(rt: HostRuntime) -> Result<(), Fail> {
     let alloc = rt.alloc();
+    let rows = [
+        refused(&["fly"]),
+        faulty(b"2 0 0 1\n", (1, 8, CpCause::Byte), b""),
+    ];
+    for row in rows {
+        let unheard = Row {
+            failing_notes: &[1],
+            notes: b"",
+            ..row
+        };
+        check(&rt, alloc, unheard)?;
+    }
     let mut notes = MemorySink::new(alloc, 4, List::new(alloc), 5)?;
     let status = run_calm(
         alloc,

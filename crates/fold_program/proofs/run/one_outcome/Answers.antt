@@ -1,5 +1,9 @@
 use Rattle.fold_program.proofs.Unique as unique
+use Rattle.fold_program.proofs.Exists as exists
 use Rattle.fold_program.proofs.run.one_outcome.Goals as goal
 
-pub returns : goal.returns
-returns c = unique.one_outcome (record { lines = c.one_reading.ensures.lines; fault = c.one_reading.ensures.fault; either = c.one_reading.ensures.either })
+pub returns-clause-some : goal.returns-clause-some
+returns-clause-some c = exists.some_outcome c.one_reading.ensures.some
+
+pub returns-clause-one : goal.returns-clause-one
+returns-clause-one c = unique.one_outcome (record { lines = c.one_reading.ensures.lines; fault = c.one_reading.ensures.fault; either = c.one_reading.ensures.either })
