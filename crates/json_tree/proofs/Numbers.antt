@@ -7,7 +7,7 @@ use Rattle.std.proofs.lemmas.List.{append-nil, take-append-drop, take_more}
 use Rattle.std.proofs.lemmas.Bool.Decides.{nat_tests}
 use Rattle.first_fault.specs.Machine.{steps, answer, Decides}
 use Rattle.first_fault.proofs.Machines.{steps-append, steps-snoc, steps_cons, leads, tests_begins, tests_accepted}
-use Rattle.json_tree.specs.Number.{IsDigit1To9, AreDigits, IsMinusOrNone, IsInt, IsNumber, BeginsNumber}
+use Rattle.json_tree.specs.Number.{IsDigit1To9, AreDigits, IsMinusOrNone, IsInt, IsNumber, IsFullNumber, BeginsNumber}
 use Rattle.json_tree.specs.Scan.{at_first_digit, next, is_whole, finished, phase_after, begins_number, is_number}
 use Rattle.json_tree.specs.declared.phase.Phase.{Phase}
 use Rattle.json_tree.specs.declared.phase.Phase.TheVariants.{Start, Minus, Zero, Digits}
@@ -183,3 +183,7 @@ number_bytes text n = rw n.2 (bytes_joined n.0 n.1 (minus_bytes n.0 n.3) (int_by
 
 pub empty_number : IsNumber [] → ⊥
 empty_number n = let test : IsTrue (is_number []) = (number_test []).1 n in cc
+
+-- a number without a fraction and an exponent is a number
+pub full_number : (text : List ℕ) → IsNumber text → IsFullNumber text
+full_number text n = (n.0, n.1, [], [], n.2 ∙ sym (append-nil _ ∙ append-nil _), n.3, n.4, inr refl, inr refl)

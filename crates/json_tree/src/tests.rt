@@ -1,5 +1,6 @@
-use crate::{NumberScanner, NumberText};
-use fold_base::Text;
+use crate::{Json, Member, NumberScanner, NumberText, Step, at, copy, is_proper, print};
+use fold_base::{List, Text};
+use std::alloc::{AllocError, Global};
 use std::test::Fail;
 
 #[test]
@@ -32,5 +33,85 @@ fn scans_two_numbers(rt: HostRuntime) -> Result<(), Fail> {
         assert!(rt; scanner.is_whole());
         assert_eq!(rt; scanner.finish(alloc)?.as_str(), text);
     }
+    Ok(())
+}
+
+fn number(alloc: Global, text: &str) -> Result<Json, Fail> {
+    let number = NumberText::read(Text::from_text(alloc, text)?)
+        .ok()
+        .ok_or("number")?;
+    Ok(Json::Number(number))
+}
+
+fn member(alloc: Global, key: &str, value: Json) -> Result<Member, Fail> {
+    let key = Text::from_text(alloc, key)?;
+    Ok(Member { key, value })
+}
+
+// {"file_spec":1,"vertices_coords":[[150,-0]]}
+fn square(alloc: Global) -> Result<Json, Fail> {
+    let mut point = List::new(alloc);
+    point.push(number(alloc, "150")?).map_err(AllocError::from)?;
+    point.push(number(alloc, "-0")?).map_err(AllocError::from)?;
+    let mut points = List::new(alloc);
+    points.push(Json::List(point)).map_err(AllocError::from)?;
+    let spec = member(alloc, "file_spec", number(alloc, "1")?)?;
+    let coords = member(alloc, "vertices_coords", Json::List(points))?;
+    let mut members = List::new(alloc);
+    members.push(spec).map_err(AllocError::from)?;
+    members.push(coords).map_err(AllocError::from)?;
+    Ok(Json::Object(members))
+}
+
+#[test]
+fn prints_a_tree_and_its_copy(rt: HostRuntime) -> Result<(), Fail> {
+    let alloc = rt.alloc();
+    let tree = square(alloc)?;
+    let text = "{\"file_spec\":1,\"vertices_coords\":[[150,-0]]}";
+    assert_eq!(rt; print(alloc, &tree)?.as_str(), text);
+    assert_eq!(rt; print(alloc, &copy(alloc, &tree)?)?.as_str(), text);
+    assert!(rt; is_proper(&tree));
+    let points = at(&tree, Step::Key(b"vertices_coords")).ok_or("vertices_coords")?;
+    let point = at(points, Step::Place(0)).ok_or("point")?;
+    assert_eq!(rt; print(alloc, point)?.as_str(), "[150,-0]");
+    assert!(rt; at(points, Step::Place(1)).is_none());
+    assert!(rt; at(&tree, Step::Key(b"file")).is_none());
+    Ok(())
+}
+
+#[test]
+fn prints_each_escape(rt: HostRuntime) -> Result<(), Fail> {
+    let alloc = rt.alloc();
+    let word = "\"\\/\u{8}\u{c}\n\r\t\u{0}\u{1f}\u{7f}é😀";
+    let tree = Json::Word(Text::from_text(alloc, word)?);
+    let text = "\"\\\"\\\\/\\b\\f\\n\\r\\t\\u0000\\u001f\u{7f}é😀\"";
+    assert_eq!(rt; print(alloc, &tree)?.as_str(), text);
+    Ok(())
+}
+
+// 40 members with keys of their own, and one with this key
+fn many_members(alloc: Global, last: &str) -> Result<Json, Fail> {
+    let mut members = List::new(alloc);
+    for place in 0..40u32 {
+        put_member(
+            &mut members,
+            Text::from_string(format!(in alloc; "key{place}")?),
+        )?;
+    }
+    put_member(&mut members, Text::from_text(alloc, last)?)?;
+    Ok(Json::Object(members))
+}
+
+fn put_member(members: &mut List<Member>, key: Text) -> Result<(), AllocError> {
+    let value = Json::Null;
+    members.push(Member { key, value })?;
+    Ok(())
+}
+
+#[test]
+fn finds_a_key_twice_among_many(rt: HostRuntime) -> Result<(), Fail> {
+    let alloc = rt.alloc();
+    assert!(rt; is_proper(&many_members(alloc, "key")?));
+    assert!(rt; !is_proper(&many_members(alloc, "key7")?));
     Ok(())
 }

@@ -1,0 +1,70 @@
+-- The tree that a text spells: its keys, how deep its lists and objects nest, and which trees texts spell.
+use Rattle.std.specs.Prelude.{◌≢◌, ℕ, suc, ◌≤◌, max, List, [], ◌∷◌, map, Contains, AllPairs, IsUtf8}
+use Rattle.json_tree.specs.Number.{IsFullNumber}
+use Rattle.json_tree.specs.declared.tree.Json.{Json, Json-F, fold-Json}
+use Rattle.json_tree.specs.declared.tree.Json.TheFolds.{fold-Member, every-Json, every-Member}
+use Rattle.json_tree.specs.declared.tree.Json.TheOpen.{Member-F}
+use Rattle.json_tree.specs.declared.tree.Json.TheOpen as layers
+use Rattle.json_tree.specs.declared.tree.Member.{Member}
+
+abbrev pub keys : List Member → List (List ℕ)
+keys members = map (λ m. m.key) members
+
+-- the object has this key
+abbrev pub HasKey : List Member → List ℕ → Type 0
+HasKey members key = Contains (keys members) key
+
+-- no two are equal
+abbrev pub AreDistinct : List (List ℕ) → Type 0
+AreDistinct words = AllPairs (λ a b. a ≢ b) words
+
+-- the largest of these numbers, 0 where there is none
+abbrev pub largest : List ℕ → ℕ
+largest [] = 0
+largest (n ∷ ns) = max n (largest ns)
+
+-- a list or an object nests one deeper than what stands in it
+abbrev pub nesting_of_layer : Json-F ℕ ℕ → ℕ
+nesting_of_layer (layers.List nestings) = suc (largest nestings)
+nesting_of_layer (layers.Object nestings) = suc (largest nestings)
+nesting_of_layer layer = 0
+
+-- how many lists and objects stand in one another
+abbrev pub nesting : Json → ℕ
+nesting tree = fold-Json ℕ ℕ nesting_of_layer (λ m. m.value) tree
+
+abbrev pub nesting_of_member : Member → ℕ
+nesting_of_member m = fold-Member ℕ ℕ nesting_of_layer (λ m. m.value) m
+
+-- an object, if it is one, has no key twice
+abbrev pub HasDistinctKeys : Json-F Json Member → Type 0
+HasDistinctKeys (layers.Object members) = AreDistinct (keys members)
+HasDistinctKeys layer = Unit {0}
+
+-- no object in the tree has a key twice
+abbrev pub HasDistinctKeysThroughout : Json → Type 0
+HasDistinctKeysThroughout tree = every-Json HasDistinctKeys (λ m. Unit {0}) tree
+
+abbrev pub MemberHasDistinctKeys : Member → Type 0
+MemberHasDistinctKeys m = every-Member HasDistinctKeys (λ m. Unit {0}) m
+
+-- lists and objects nest at most so deep, and no object has a key twice
+pub record IsProperWithin (levels : ℕ) (tree : Json) : Type 0 where
+  pub nested : nesting tree ≤ levels
+  pub distinct : HasDistinctKeysThroughout tree
+
+abbrev pub IsProper : Json → Type 0
+IsProper tree = IsProperWithin 64 tree
+
+-- the text of a number spells one, and a word is UTF-8
+abbrev pub HasText : Json-F Json Member → Type 0
+HasText (layers.Number text) = IsFullNumber text
+HasText (layers.Word word) = IsUtf8 word
+HasText layer = Unit {0}
+
+-- all texts in the tree are so, as their types say of each tree that a program holds
+abbrev pub HasTexts : Json → Type 0
+HasTexts tree = every-Json HasText (λ m. IsUtf8 m.key) tree
+
+abbrev pub MemberHasTexts : Member → Type 0
+MemberHasTexts m = every-Member HasText (λ m. IsUtf8 m.key) m
