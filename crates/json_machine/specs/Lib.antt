@@ -1,0 +1,4 @@
+pub mod NumberScan
+pub mod WordScan
+pub mod Machine
+pub mod Opens

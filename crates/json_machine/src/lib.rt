@@ -1,0 +1,6 @@
+//! JSON text read byte by byte: what each byte makes of a reader, and that this decides which text spells which tree.
+#![tactic(auto)]
+
+mod laws;
+
+pub use laws::{machine_decides, number_tests, one_tree, reads_back, short_texts};
