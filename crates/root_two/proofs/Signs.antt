@@ -1,11 +1,12 @@
 -- The sign of a + b√k by the signs of its parts, as far as they decide it.
-use mathlib.Core.Path.{◌≡◌, refl, sym, ap, ◌∙◌}
+use mathlib.Core.Path.{◌≡◌, refl, ap, subst, ◌∙◌}
 use mathlib.Core.Logic.{◌⊎◌, inl, inr}
 use Prim.Native.Nat.{ℕ, zero, suc}
 use native.Mathlib.Omega.{arith}
 use borrow.Author.Differences.{ints}
 use lib.IntN.{ℤ, pos, negsuc}
-use lib.Signed.{◌≤ℤ◌}
+use lib.Signed.{lt_z}
+use mathlib.Core.Bool.{true, false, beq}
 use Rattle.std.specs.Prelude.{FitsSigned}
 use Rattle.std.specs.Int.{w128, cast_signed, cast_unsigned}
 use Rattle.std.specs.Ordering.{int_cmp}
@@ -28,20 +29,17 @@ same_or_zero Less s t h (inr e) = absurd (h e)
 same_or_zero Equal s t h e = absurd (h refl)
 same_or_zero Greater s t h e = refl
 
-second_alone : (norm t : Ordering) → (by_norm norm Equal t ≡ Equal → t ≡ Equal) → by_norm norm Equal t ≡ t
-second_alone Less t h = refl
-second_alone Equal t h = sym (h refl)
-second_alone Greater t h = sym (h refl)
+from_zero : (n : ℕ) → lt_z (pos n) (pos 0) ≡ false
+from_zero n = grind (arith, ints)
 
-not_below : (b : ℤ) → pos 0 ≤ℤ b → (int_sign b ≡ Greater) ⊎ (int_sign b ≡ Equal)
-not_below (pos zero) h = inr refl
-not_below (pos (suc n)) h = inl refl
-not_below (negsuc n) h = absurd (omega (arith, ints))
-
-not_above : (b : ℤ) → b ≤ℤ pos 0 → (int_sign b ≡ Less) ⊎ (int_sign b ≡ Equal)
-not_above (pos zero) h = inr refl
-not_above (pos (suc n)) h = absurd (omega (arith, ints))
-not_above (negsuc n) h = inl refl
+-- on one side of zero
+pub same_side : (a b : ℤ) → ¬ (a ≡ pos 0) → ¬ (b ≡ pos 0) → beq (lt_z a (pos 0)) (lt_z b (pos 0)) ≡ true → int_sign b ≡ int_sign a
+same_side (pos zero) b h k e = absurd (h refl)
+same_side a (pos zero) h k e = absurd (k refl)
+same_side (pos (suc m)) (pos (suc n)) h k e = refl
+same_side (pos (suc m)) (negsuc n) h k e = let apart = subst (λ t. beq t true ≡ true) (from_zero (suc m)) e in absurd (cc)
+same_side (negsuc m) (pos (suc n)) h k e = let apart = subst (λ t. beq true t ≡ true) (from_zero (suc n)) e in absurd (cc)
+same_side (negsuc m) (negsuc n) h k e = refl
 
 module _ (k : ℕ) (nonsquare : IsNonsquare k) (a b : ℤ) where
   abbrev x : Surd ℤ
@@ -53,20 +51,6 @@ module _ (k : ℕ) (nonsquare : IsNonsquare k) (a b : ℤ) where
   only_zero : sign ≡ Equal → x ≡ (surds k nonsquare).int (pos 0)
   only_zero = (surds k nonsquare).sign_zero x
 
-  first_alone : (s : Ordering) → int_sign a ≡ s → ¬ (s ≡ Equal) → (int_sign b ≡ s) ⊎ (int_sign b ≡ Equal) → sign ≡ s
-  first_alone s e h either =
-      let n = int_sign (surd_norm int_ops (pos k) x) in
-      let nonzero : ¬ (by_norm n s (int_sign b) ≡ Equal) = λ z. h (sym e ∙ ap (λ (y : Surd ℤ). int_sign y.a) (only_zero (ap (λ t. by_norm n t (int_sign b)) e ∙ z))) in
-      ap (λ t. by_norm n t (int_sign b)) e ∙ same_or_zero n s (int_sign b) nonzero either
-
-  pub sign_above : int_sign a ≡ Greater → pos 0 ≤ℤ b → sign ≡ Greater
-  sign_above e h = first_alone Greater e (λ z. cc) (not_below b h)
-
-  pub sign_below : int_sign a ≡ Less → b ≤ℤ pos 0 → sign ≡ Less
-  sign_below e h = first_alone Less e (λ z. cc) (not_above b h)
-
-  pub sign_of_second : int_sign a ≡ Equal → sign ≡ int_sign b
-  sign_of_second e =
-      let n = int_sign (surd_norm int_ops (pos k) x) in
-      let turned = ap (λ t. by_norm n t (int_sign b)) e in
-      turned ∙ second_alone n (int_sign b) (λ z. ap (λ (y : Surd ℤ). int_sign y.b) (only_zero (turned ∙ z)))
+  -- b is on the side of a, or zero
+  pub sign_of_first : ¬ (int_sign a ≡ Equal) → (int_sign b ≡ int_sign a) ⊎ (int_sign b ≡ Equal) → sign ≡ int_sign a
+  sign_of_first h = same_or_zero (int_sign (surd_norm int_ops (pos k) x)) (int_sign a) (int_sign b) (λ z. h (ap (λ (y : Surd ℤ). int_sign y.a) (only_zero z)))

@@ -38,15 +38,15 @@ impl Two {
 impl Root for Two {
     ghost k = { 2 };
 
-    /// Either 1 < √2 < 2 settles how x stands to y√2, or x is from y to 2y. Then x-y√2 times the unit 1+√2, which is
+    /// Either 5/4 < √2 < 3/2 settles how x stands to y√2, or x is from y to 2y. Then x-y√2 times the unit 1+√2, which is
     /// -(2y-x)+(x-y)√2, has its sign and is smaller.
     fn step(x: u128, y: u128) -> Step {
-        if x < y {
-            return Step::Settled(Ordering::Less);
-        }
-        let rest = x - y;
-        if rest >= y {
+        let rest = x.saturating_sub(y);
+        if rest > y / 2 {
             return Step::Settled(Ordering::Greater);
+        }
+        if rest <= y / 4 {
+            return Step::Settled(Ordering::Less);
         }
         Step::Turned(y - rest, rest)
     }
@@ -58,13 +58,14 @@ impl Root for Two {
 pub fn sign_of<R: Root>(a: i128, b: i128) -> Ordering
     ensures { result ≡ surd_sign int_ops (pos R.k) int_sign (record { a = a; b = b }) }
 {
-    match a.cmp(&0) {
-        Ordering::Equal => b.cmp(&0),
-        Ordering::Greater if b >= 0 => Ordering::Greater,
-        Ordering::Less if b <= 0 => Ordering::Less,
-        Ordering::Greater => compare_with_root::<R>(a.unsigned_abs(), b.unsigned_abs()),
-        Ordering::Less => compare_with_root::<R>(a.unsigned_abs(), b.unsigned_abs()).reverse(),
+    if a == 0 {
+        return b.cmp(&0);
     }
+    if b == 0 || (a < 0) == (b < 0) {
+        return a.cmp(&0);
+    }
+    let order = compare_with_root::<R>(a.unsigned_abs(), b.unsigned_abs());
+    if a < 0 { order.reverse() } else { order }
 }
 
 /// Each step halves x + y at least, and at first that is below 2^129.
