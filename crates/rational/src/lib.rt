@@ -2,9 +2,11 @@
 #![tactic(auto)]
 
 mod field;
+mod laws;
 mod rational;
 mod ring;
 mod whole;
 
+pub use laws::rational_root;
 pub use rational::Rational;
 pub use whole::RationalRing;

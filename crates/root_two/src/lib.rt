@@ -3,8 +3,10 @@
 
 mod descent;
 mod formulas;
+mod laws;
 mod number;
 mod whole;
 
+pub use laws::root_of_two;
 pub use number::RootTwo;
 pub use whole::RootTwoRing;
