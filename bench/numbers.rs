@@ -114,23 +114,26 @@ fn signs(count: usize) -> i128 {
     sum
 }
 
-fn main() {
-    let words: Vec<String> = std::env::args().skip(1).collect();
-    let count: usize = words[1].parse().unwrap();
-    if words[0] == "sign" {
-        return println!("{}", signs(count));
-    }
-    let numbers = samples();
+fn over_pairs(numbers: &[Rational], count: usize, operation: impl Fn(Rational, Rational) -> i128) -> i128 {
     let mut sum: i128 = 0;
     for turn in 0..count {
         let x = numbers[turn % numbers.len()];
         let y = numbers[(turn / numbers.len()) % numbers.len()];
-        let outcome = match words[0].as_str() {
-            "add" => parts_of(x.add(y)),
-            "mul" => parts_of(x.mul(y)),
-            _ => order_of(x.compare(y)),
-        };
-        sum = sum.wrapping_mul(31).wrapping_add(outcome);
+        sum = sum.wrapping_mul(31).wrapping_add(operation(x, y));
     }
+    sum
+}
+
+fn main() {
+    let words: Vec<String> = std::env::args().skip(1).collect();
+    let count: usize = words[1].parse().unwrap();
+    let numbers = samples();
+    let sum = match words[0].as_str() {
+        "add" => over_pairs(&numbers, count, |x, y| parts_of(x.add(y))),
+        "mul" => over_pairs(&numbers, count, |x, y| parts_of(x.mul(y))),
+        "compare" => over_pairs(&numbers, count, |x, y| order_of(x.compare(y))),
+        "sign" => signs(count),
+        _ => 0,
+    };
     println!("{sum}");
 }

@@ -21,7 +21,6 @@ fn main(rt: HostRuntime) -> io::Result<()> {
     };
     let numbers = samples(rt.alloc())?;
     let sum = match operation {
-        Some(word) if word.as_str() == "sign" => signs(count),
         Some(word) => checksum(word.as_str(), &numbers, count),
         None => 0,
     };
@@ -29,17 +28,28 @@ fn main(rt: HostRuntime) -> io::Result<()> {
 }
 
 fn checksum(operation: &str, numbers: &[Rational], count: u32) -> i128 {
+    match operation {
+        "add" => over_pairs(numbers, count, |x, y| parts_of(x.add(y))),
+        "mul" => over_pairs(numbers, count, |x, y| parts_of(x.mul(y))),
+        "compare" => over_pairs(numbers, count, |x, y| order_of(x.compare(y))),
+        "sign" => signs(count),
+        _ => 0,
+    }
+}
+
+fn over_pairs<F: Fn(Rational, Rational) -> i128>(
+    numbers: &[Rational],
+    count: u32,
+    operation: F,
+) -> i128
+    requires { F.IsAlwaysCallable operation }
+{
     let mut sum: i128 = 0;
     for turn in 0..count as usize {
         let Some((x, y)) = pair(numbers, turn) else {
             return 0;
         };
-        let outcome = match operation {
-            "add" => parts_of(x.add(y)),
-            "mul" => parts_of(x.mul(y)),
-            _ => order_of(x.compare(y)),
-        };
-        sum = sum.wrapping_mul(31).wrapping_add(outcome);
+        sum = sum.wrapping_mul(31).wrapping_add(operation(x, y));
     }
     sum
 }
