@@ -8,7 +8,8 @@ use Rattle.first_fault.specs.Machine.{steps, answer, Decides}
 use Rattle.first_fault.proofs.Machines.{leads, steps_join, steps_one, steps_cons}
 use Rattle.json_tree.specs.Number.{IsNumber}
 use Rattle.json_tree.specs.Scan.{begins_number, is_number}
-use Rattle.json_tree.proofs.Numbers.{number_test, begins_test, number_bytes, empty_number}
+use Rattle.json_tree.proofs.NumberBytes.{number_bytes, empty_number}
+use Rattle.json_tree.proofs.Numbers.{number_test, begins_test}
 use Rattle.cp_lines.specs.CpText.{IsBlank, AreBlanks, IsGap, SpacedNumbers, KindAndNumbers, SpellsLine, IsLineEnd, EndedLines, none, one_more, CpText}
 use Rattle.cp_lines.specs.Machine.{closed, with_line, ended, at_line_feed, at_number_byte, by_class, step, finish, start}
 use Rattle.cp_lines.proofs.Classes.{blank_class, other_class, kind_digit}

@@ -1,6 +1,6 @@
 -- An accepted text has no first fault, and no text has two.
-use Rattle.std.proofs.Common.{◌≡◌, ℕ, ◌+◌, ◌<◌, ◌≤◌, List, ◌++◌, take, drop, refl, sym, subst, append_assoc, arith, inl, inr}
-use Rattle.std.proofs.lemmas.List.{take-append-drop, take-take}
+use Rattle.std.proofs.Common.{◌≡◌, ℕ, ◌+◌, ◌<◌, ◌≤◌, List, ◌++◌, take, drop, refl, sym, subst, append_assoc, arith, inl, inr, length-append}
+use Rattle.std.proofs.lemmas.List.{take-append-drop, take-append-le, take-take}
 use Rattle.std.proofs.lemmas.Bool.{cases_lt}
 use Rattle.first_fault.specs.FirstFault.{IsAccepted, Begins, IsFirstFault, Stop, Byte, Ended}
 
@@ -27,6 +27,18 @@ module _ {V : Type 0} (Spells : List ℕ → V → Type 0) where
   same_stop text p q Byte Ended e f g = absurd (omega arith)
   same_stop text p q Ended Byte e f g = absurd (omega arith)
   same_stop text p q Ended Ended e f g = refl
+
+  -- a fault at a byte is one of each longer text
+  pub fault_stays : (text more : List ℕ) (p : ℕ) → IsFirstFault Spells text p Byte → IsFirstFault Spells (text ++ more) p Byte
+  fault_stays text more p f = (
+    omega (arith, f.0, length-append text more),
+    subst (Begins Spells) (sym (take-append-le p text more (omega (arith, f.0)))) f.1,
+    (λ b. f.2 (subst (Begins Spells) (take-append-le (p + 1) text more (omega (arith, f.0))) b)),
+  )
+
+  -- and no accepted text begins so
+  pub stopped : (text : List ℕ) (p : ℕ) → IsFirstFault Spells text p Byte → ¬ Begins Spells text
+  stopped text p f b = f.2 (begins_front (take (p + 1) text) (drop (p + 1) text) (subst (Begins Spells) (sym (take-append-drop (p + 1) text)) b))
 
   pub no_fault : (text : List ℕ) (p : ℕ) (c : Stop) → IsAccepted Spells text → IsFirstFault Spells text p c → ⊥
   no_fault text p Byte a f = f.2 (begins_accepted text (p + 1) a)

@@ -15,22 +15,23 @@ use Rattle.json_tree.specs.declared.tree.Json.{Json, Null, Truth, Number, Word}
 use Rattle.json_tree.specs.declared.tree.Json.TheViews as trees
 use Rattle.json_tree.specs.declared.tree.Member.{Member}
 use Rattle.json_machine.specs.Machine.{Frame, InList, InObject, Phase, ValueDue, FirstValueDue, KeyDue, FirstKeyDue, ColonDue, InWord, InKey, InNumber, InLiteral, AfterValue, State, Sign, Blank, Quote, Open, Close, OpenBrace, CloseBrace, Comma, Colon, Other, sign_of, start, in_phase, pair, emitted, rooted, with_value, closed_list, closed_object, next_due, after_value, pushed, at_other, at_value, at_first_value, literal_left, in_literal, in_number, in_word, has_key, keyed, in_key, at_key, at_first_key, at_colon, by_phase, step, ending, finish}
-use Rattle.json_machine.specs.NumberScan.{BeginsNumber, begins_number, is_number}
+use Rattle.json_tree.specs.Number.{BeginsNumber}
+use Rattle.json_tree.specs.Scan.{begins_number, is_number}
 use Rattle.json_machine.specs.Opens.{Heads, KeyHeads, ValueIsDue, KeyIsDue}
 use Rattle.json_machine.specs.WordScan.{WordState, WordPart, Between, Character, Escape, Unit0, Unit1, Unit2, Unit3, High, LowEscape, Low0, Low1, Low2, Low3, word_start, next_character, is_between}
 use Rattle.json_machine.proofs.Keys.{no_key_found, goes_on_new}
-use Rattle.json_machine.proofs.Numbers.{number_test, begins_test}
+use Rattle.json_tree.proofs.Numbers.{number_test, begins_test}
 use Rattle.json_machine.proofs.Signs.{blank_byte, quote_byte, open_byte, close_byte, open_brace_byte, close_brace_byte, comma_byte, colon_byte}
 use Rattle.json_machine.proofs.Words.{PartLeads, WordLeads, word_leads_start, word_leads, word_alive}
 
 -- a value is done inside of what is open
-abbrev Done : List Frame → Json → List ℕ → Type 0
+abbrev pub Done : List Frame → Json → List ℕ → Type 0
 Done k v t = (before value after : List ℕ) × (t ≡ before ++ value ++ after) × ValueIsDue k before × SpellsValue (length k) value v × AreBlanks after
 
-abbrev IsLiteral : List ℕ → Json → Type 0
+abbrev pub IsLiteral : List ℕ → Json → Type 0
 IsLiteral text tree = ((text ≡ codes "null") × (tree ≡ Null)) ⊎ ((is : Bool) × (text ≡ truth_word is) × (tree ≡ Truth is))
 
-abbrev LeadsAt : Phase → List ℕ → State → Type 0
+abbrev pub LeadsAt : Phase → List ℕ → State → Type 0
 LeadsAt ValueDue t s = ValueIsDue s.stack t
 LeadsAt FirstValueDue t s = (k : List Frame) × (s.stack ≡ InList [] ∷ k) × ValueIsDue s.stack t
 LeadsAt (InWord w) t s = (before inner : List ℕ) × (t ≡ before ++ (34 ∷ []) ++ inner) × ValueIsDue s.stack before × WordLeads inner w
@@ -163,7 +164,7 @@ colon_due ms k x before spelled blanks t d s new i e = (d.0, d.1, d.2, spelled, 
 
 -- ---- words, numbers and literals that are done
 
-between_part : (part : WordPart) → is_between part ≡ true → part ≡ Between
+pub between_part : (part : WordPart) → is_between part ≡ true → part ≡ Between
 between_part Between e = refl
 between_part (Character later low high code) e = cc
 between_part Escape e = cc
@@ -178,7 +179,7 @@ between_part (Low1 h) e = cc
 between_part (Low2 h v) e = cc
 between_part (Low3 h v) e = cc
 
-word_spelled : (inner : List ℕ) (w : WordState) → WordLeads inner w → is_between w.part ≡ true → SpellsWord ((34 ∷ []) ++ inner ++ (34 ∷ [])) w.word
+pub word_spelled : (inner : List ℕ) (w : WordState) → WordLeads inner w → is_between w.part ≡ true → SpellsWord ((34 ∷ []) ++ inner ++ (34 ∷ [])) w.word
 word_spelled inner w l e =
     let done : l.begun ≡ [] = subst (PartLeads l.begun) (between_part w.part e) l.part_leads in
     let front : inner ≡ l.front = l.text_is ∙ ap (λ x. l.front ++ x) done ∙ append-nil l.front in

@@ -1,8 +1,7 @@
-pub mod Goes
-pub mod Numbers
 pub mod Words
 pub mod Signs
 pub mod Keys
 pub mod Leads
 pub mod Runs
+pub mod Dues
 pub mod Decided

@@ -7,30 +7,31 @@ use borrow.Author.Tests.{lt-ltb}
 use Rattle.first_fault.specs.Machine.{steps, answer}
 use Rattle.first_fault.proofs.Machines.{steps-append}
 use Rattle.json_tree.specs.Blank.{IsBlank, AreBlanks}
-use Rattle.json_tree.specs.Number.{IsFullNumber}
+use Rattle.json_tree.specs.Number.{IsNumber}
 use Rattle.json_tree.specs.Spells.{truth_word, Spells, SpellsValue, SpellsItem, SpellsItems, SpellsMember, SpellsMembers, null, truth, number, word, empty_list, list, empty_object, object, item, first as first_item, next as next_item, member, first_member, next_member}
 use Rattle.json_tree.specs.Tree.{HasKey}
-use Rattle.json_tree.specs.Word.{SpellsWord}
+use Rattle.json_tree.specs.Word.{SpellsCharacters, SpellsWord}
 use Rattle.json_tree.specs.declared.tree.Json.{Json, Null, Truth, Number, Word}
 use Rattle.json_tree.specs.declared.tree.Json.TheViews as trees
 use Rattle.json_tree.specs.declared.tree.Member.{Member}
 use Rattle.json_machine.specs.Machine.{Frame, InList, InObject, Phase, ValueDue, FirstValueDue, KeyDue, FirstKeyDue, ColonDue, InWord, InKey, InNumber, InLiteral, AfterValue, State, Blank, Other, sign_of, start, in_phase, rooted, with_value, after_value, at_number, at_other, at_value, at_first_value, in_word, has_key, keyed, in_key, by_phase, step, finish}
-use Rattle.json_machine.specs.NumberScan.{begins_number, is_number}
+use Rattle.json_tree.specs.Scan.{begins_number, is_number}
 use Rattle.json_machine.specs.WordScan.{WordState, word_start, next_character}
-use Rattle.json_machine.proofs.Goes.{Goes, then_goes, byte_goes, none_goes, along}
+use Rattle.first_fault.proofs.Goes.{Goes, then_goes, byte_goes, none_goes, along}
 use Rattle.json_machine.proofs.Keys.{new_key}
-use Rattle.json_machine.proofs.Numbers.{IsPlain, number_ends, number_test, begins_test, empty_number}
+use Rattle.json_tree.proofs.NumberBytes.{IsPlain, number_ends, empty_number}
+use Rattle.json_tree.proofs.Numbers.{number_test, begins_test}
 use Rattle.json_machine.proofs.Signs.{blank_sign}
 use Rattle.json_machine.proofs.Words.{at_rest, word_goes}
 
-abbrev at : List Frame → Phase → State
+abbrev pub at : List Frame → Phase → State
 at k p = record { stack = k; root = None; phase = p }
 
-abbrev Go : State → List ℕ → State → Type 0
+abbrev pub Go : State → List ℕ → State → Type 0
 Go s t e = Goes step s t e
 
 -- the byte after a value: a blank, a comma, a closing bracket or brace
-abbrev Delimits : ℕ → Type 0
+abbrev pub Delimits : ℕ → Type 0
 Delimits b = IsBlank b ⊎ ((b ≡ 44) ⊎ ((b ≡ 93) ⊎ (b ≡ 125)))
 
 not_plain : (b : ℕ) → Delimits b → ¬ IsPlain b
@@ -52,22 +53,22 @@ settled v k = record { delimited = λ b d. refl; ended = refl }
 
 -- ---- blanks
 
-blanks_go : (s : State) → ((b : ℕ) → by_phase s.phase s b Blank ≡ Some s) → (t : List ℕ) → AreBlanks t → Go s t s
+pub blanks_go : (s : State) → ((b : ℕ) → by_phase s.phase s b Blank ≡ Some s) → (t : List ℕ) → AreBlanks t → Go s t s
 blanks_go s h [] a = none_goes
 blanks_go s h (b ∷ t) a = then_goes {a = b ∷ []} (byte_goes b (ap (by_phase s.phase s b) (blank_sign b a.0) ∙ h b)) (blanks_go s h t a.1)
 
 -- where a value may begin, and where a key may
-abbrev IsDue : Phase → Type 0
+abbrev pub IsDue : Phase → Type 0
 IsDue p = (p ≡ ValueDue) ⊎ (p ≡ FirstValueDue)
 
-abbrev IsKeyDue : Phase → Type 0
+abbrev pub IsKeyDue : Phase → Type 0
 IsKeyDue p = (p ≡ KeyDue) ⊎ (p ≡ FirstKeyDue)
 
-due_blanks : (k : List Frame) (p : Phase) → IsDue p → (t : List ℕ) → AreBlanks t → Go (at k p) t (at k p)
+pub due_blanks : (k : List Frame) (p : Phase) → IsDue p → (t : List ℕ) → AreBlanks t → Go (at k p) t (at k p)
 due_blanks k p (inl e) t a = rw e (blanks_go (at k ValueDue) (λ b. refl) t a)
 due_blanks k p (inr e) t a = rw e (blanks_go (at k FirstValueDue) (λ b. refl) t a)
 
-key_blanks : (k : List Frame) (p : Phase) → IsKeyDue p → (t : List ℕ) → AreBlanks t → Go (at k p) t (at k p)
+pub key_blanks : (k : List Frame) (p : Phase) → IsKeyDue p → (t : List ℕ) → AreBlanks t → Go (at k p) t (at k p)
 key_blanks k p (inl e) t a = rw e (blanks_go (at k KeyDue) (λ b. refl) t a)
 key_blanks k p (inr e) t a = rw e (blanks_go (at k FirstKeyDue) (λ b. refl) t a)
 
@@ -80,11 +81,11 @@ due_quote k p (inr e) = rw e (byte_goes 34 refl)
 room : {X : Type 0} (n : ℕ) (a b : X) → n < 64 → (if nat_lt n 64 then a else b) ≡ a
 room n a b less = ap (λ (r : Bool). if r then a else b) (lt-ltb n 64 less)
 
-due_open : (k : List Frame) (p : Phase) → length k < 64 → IsDue p → Go (at k p) (91 ∷ []) (at (InList [] ∷ k) FirstValueDue)
+pub due_open : (k : List Frame) (p : Phase) → length k < 64 → IsDue p → Go (at k p) (91 ∷ []) (at (InList [] ∷ k) FirstValueDue)
 due_open k p less (inl e) = rw e (byte_goes {s = at k ValueDue} 91 (room (length k) _ _ less))
 due_open k p less (inr e) = rw e (byte_goes {s = at k FirstValueDue} 91 (room (length k) _ _ less))
 
-due_brace : (k : List Frame) (p : Phase) → length k < 64 → IsDue p → Go (at k p) (123 ∷ []) (at (InObject [] [] ∷ k) FirstKeyDue)
+pub due_brace : (k : List Frame) (p : Phase) → length k < 64 → IsDue p → Go (at k p) (123 ∷ []) (at (InObject [] [] ∷ k) FirstKeyDue)
 due_brace k p less (inl e) = rw e (byte_goes {s = at k ValueDue} 123 (room (length k) _ _ less))
 due_brace k p less (inr e) = rw e (byte_goes {s = at k FirstValueDue} 123 (room (length k) _ _ less))
 
@@ -93,7 +94,7 @@ due_other : (k : List Frame) (p : Phase) → IsDue p → (b : ℕ) → sign_of b
 due_other k p (inl same) b o e h = byte_goes b (ap (λ q. by_phase q (at k p) b (sign_of b)) same ∙ ap (at_value (at k p) b) o ∙ h)
 due_other k p (inr same) b o e h = byte_goes b (ap (λ q. by_phase q (at k p) b (sign_of b)) same ∙ ap (at_first_value (at k p) b) o ∙ h)
 
-key_quote : (k : List Frame) (p : Phase) → IsKeyDue p → Go (at k p) (34 ∷ []) (at k (InKey word_start))
+pub key_quote : (k : List Frame) (p : Phase) → IsKeyDue p → Go (at k p) (34 ∷ []) (at k (InKey word_start))
 key_quote k p (inl e) = rw e (byte_goes 34 refl)
 key_quote k p (inr e) = rw e (byte_goes 34 refl)
 
@@ -113,6 +114,10 @@ word_lift k w b n h = ap (in_word (at k (InWord w)) w b) h
 key_lift : (k : List Frame) (w : WordState) (b : ℕ) (n : WordState) → next_character w b ≡ Some n → step (at k (InKey w)) b ≡ Some (at k (InKey n))
 key_lift k w b n h = ap (in_key (at k (InKey w)) w b) h
 
+-- the characters of a key
+pub key_goes_on : (k : List Frame) (inner cs : List ℕ) → SpellsCharacters inner cs → Go (at k (InKey word_start)) inner (at k (InKey (at_rest (encode_utf8_all cs))))
+key_goes_on k inner cs s = record { runs = lifted (λ w. at k (InKey w)) (key_lift k) inner word_start (at_rest (encode_utf8_all cs)) (word_goes inner cs s).runs }
+
 -- a word with its quotes, and a new key
 spelled_word_goes : (k : List Frame) (p : Phase) → IsDue p → (text x : List ℕ) → SpellsWord text x → Go (at k p) text (with_value (Word x) k)
 spelled_word_goes k p d text x s =
@@ -120,11 +125,11 @@ spelled_word_goes k p d text x s =
     let end = byte_goes {step = step} {s = at k (InWord (at_rest (encode_utf8_all s.1)))} {e = with_value (Word (encode_utf8_all s.1)) k} 34 refl in
     along s.2 (subst (λ y. Go (at k p) ((34 ∷ []) ++ s.0 ++ (34 ∷ [])) (with_value (Word y) k)) (sym s.4) (then_goes {a = (34 ∷ []) ++ s.0} (then_goes {a = 34 ∷ []} (due_quote k p d) inner) end))
 
-spelled_key_goes : (k : List Frame) (p : Phase) → IsKeyDue p → (ms : List Member) (before text x : List ℕ) → SpellsWord text x → ¬ HasKey ms x → Go (at (InObject ms before ∷ k) p) text (at (InObject ms x ∷ k) ColonDue)
+pub spelled_key_goes : (k : List Frame) (p : Phase) → IsKeyDue p → (ms : List Member) (before text x : List ℕ) → SpellsWord text x → ¬ HasKey ms x → Go (at (InObject ms before ∷ k) p) text (at (InObject ms x ∷ k) ColonDue)
 spelled_key_goes k p d ms before text x s new =
     let f = InObject ms before ∷ k in
     let key = encode_utf8_all s.1 in
-    let inner : Go (at f (InKey word_start)) s.0 (at f (InKey (at_rest key))) = record { runs = lifted (λ w. at f (InKey w)) (key_lift f) s.0 word_start (at_rest key) (word_goes s.0 s.1 s.3).runs } in
+    let inner = key_goes_on f s.0 s.1 s.3 in
     let fresh : has_key key ms ≡ false = new_key key ms (subst (λ y. ¬ HasKey ms y) s.4 new) in
     let taken : keyed key f ≡ Some (at (InObject ms key ∷ k) ColonDue) = ap (λ (r : Bool). if r then None else Some (at (InObject ms key ∷ k) ColonDue)) fresh in
     let end = byte_goes {step = step} {s = at f (InKey (at_rest key))} {e = at (InObject ms key ∷ k) ColonDue} 34 taken in
@@ -165,17 +170,17 @@ no_literal s b h =
     differs : (b c : ℕ) → BeginsOne b → 58 ≤ c → (b == c) ≡ false
     differs b c h l = grind (arith, nat_tests)
 
-number_byte : (k : List Frame) (text : List ℕ) (b : ℕ) (rest : List ℕ) → IsFullNumber (text ++ b ∷ rest) → step (at k (InNumber text)) b ≡ Some (at k (InNumber (text ++ b ∷ [])))
+number_byte : (k : List Frame) (text : List ℕ) (b : ℕ) (rest : List ℕ) → IsNumber (text ++ b ∷ rest) → step (at k (InNumber text)) b ≡ Some (at k (InNumber (text ++ b ∷ [])))
 number_byte k text b rest n =
-    let begun : begins_number (text ++ b ∷ []) ≡ true = (begins_test (text ++ b ∷ [])).1 (rest, subst IsFullNumber (sym (append_assoc text (b ∷ []) rest)) n) in
+    let begun : begins_number (text ++ b ∷ []) ≡ true = (begins_test (text ++ b ∷ [])).1 (rest, subst IsNumber (sym (append_assoc text (b ∷ []) rest)) n) in
     ap (λ (r : Bool). if r then Some (at k (InNumber (text ++ b ∷ []))) else if is_number text then after_value (with_value (Number text) k) (sign_of b) else None) begun
 
-number_goes_on : (k : List Frame) (text rest : List ℕ) → IsFullNumber (text ++ rest) → Go (at k (InNumber text)) rest (at k (InNumber (text ++ rest)))
+number_goes_on : (k : List Frame) (text rest : List ℕ) → IsNumber (text ++ rest) → Go (at k (InNumber text)) rest (at k (InNumber (text ++ rest)))
 number_goes_on k text [] n = subst (λ x. Go (at k (InNumber text)) [] (at k (InNumber x))) (sym (append-nil text)) none_goes
 number_goes_on k text (b ∷ rest) n = subst (λ x. Go (at k (InNumber text)) (b ∷ rest) (at k (InNumber x))) (append_assoc text (b ∷ []) rest)
-    (then_goes {a = b ∷ []} (byte_goes b (number_byte k text b rest n)) (number_goes_on k (text ++ b ∷ []) rest (subst IsFullNumber (sym (append_assoc text (b ∷ []) rest)) n)))
+    (then_goes {a = b ∷ []} (byte_goes b (number_byte k text b rest n)) (number_goes_on k (text ++ b ∷ []) rest (subst IsNumber (sym (append_assoc text (b ∷ []) rest)) n)))
 
-number_settles : (k : List Frame) (text : List ℕ) → IsFullNumber text → Settles (at k (InNumber text)) (Number text) k
+number_settles : (k : List Frame) (text : List ℕ) → IsNumber text → Settles (at k (InNumber text)) (Number text) k
 number_settles k text n =
     let whole : is_number text ≡ true = (number_test text).1 n in record {
       delimited = λ b d.
@@ -184,7 +189,7 @@ number_settles k text n =
       ended = ap (λ (r : Bool). if r then rooted (Number text) k else None) whole;
     }
 
-number_value_goes : (k : List Frame) (p : Phase) → IsDue p → (text : List ℕ) → IsFullNumber text → ValueGoes k p text (Number text)
+number_value_goes : (k : List Frame) (p : Phase) → IsDue p → (text : List ℕ) → IsNumber text → ValueGoes k p text (Number text)
 number_value_goes k p d [] n = absurd (empty_number n)
 number_value_goes k p d (b ∷ rest) n =
     let begun : begins_number (b ∷ []) ≡ true = (begins_test (b ∷ [])).1 (rest, n) in
@@ -202,10 +207,10 @@ closes e v k t (b ∷ after) a c d s h =
     (then_goes {a = after} (blanks_go (with_value v k) (λ b. refl) after a.1) (byte_goes c h))
 
 -- after the values of a list and the members of an object that is open
-abbrev after_items : List Json → List Frame → State
+abbrev pub after_items : List Json → List Frame → State
 after_items vs k = record { stack = InList vs ∷ k; root = None; phase = AfterValue }
 
-abbrev after_members : List Member → List Frame → State
+abbrev pub after_members : List Member → List Frame → State
 after_members ms k = record { stack = InObject ms [] ∷ k; root = None; phase = AfterValue }
 
 mutual
@@ -229,7 +234,7 @@ mutual
       along (ap (λ x. x ++ c ∷ []) te ∙ append_assoc (before ++ value) after (c ∷ []))
       (then_goes {a = before ++ value} (then_goes (due_blanks k p d before ib) goes.1) (closes goes.0 v k goes.2 after ia c dc s h))
 
-  items_go : {n : ℕ} {t : List ℕ} {vs : List Json} → SpellsItems n t vs → (k : List Frame) → suc (length k) ≡ n → (c : ℕ) → Delimits c → (s : State) → step (after_items vs k) c ≡ Some s → Go (at (InList [] ∷ k) FirstValueDue) (t ++ c ∷ []) s
+  pub items_go : {n : ℕ} {t : List ℕ} {vs : List Json} → SpellsItems n t vs → (k : List Frame) → suc (length k) ≡ n → (c : ℕ) → Delimits c → (s : State) → step (after_items vs k) c ≡ Some s → Go (at (InList [] ∷ k) FirstValueDue) (t ++ c ∷ []) s
   items_go (first_item v i ve) k same c dc s h = item_goes i (InList [] ∷ k) same FirstValueDue (inr refl) c dc s (ap (λ x. step (after_items x k) c) (sym ve) ∙ h)
   items_go (next_item front last vs v f l te ve) k same c dc s h =
       along (ap (λ x. x ++ c ∷ []) te ∙ append_assoc (front ++ 44 ∷ []) last (c ∷ []))
@@ -245,7 +250,7 @@ mutual
       (blanks_go (at (InObject ms m.key ∷ k) ColonDue) (λ b. refl) between ia)) (byte_goes {step = step} {s = at (InObject ms m.key ∷ k) ColonDue} 58 refl))
       (item_goes si (InObject ms m.key ∷ k) same ValueDue (inl refl) c dc s h))
 
-  members_go : {n : ℕ} {t : List ℕ} {ms : List Member} → SpellsMembers n t ms → (k : List Frame) → suc (length k) ≡ n → (c : ℕ) → Delimits c → (s : State) → step (after_members ms k) c ≡ Some s → Go (at (InObject [] [] ∷ k) FirstKeyDue) (t ++ c ∷ []) s
+  pub members_go : {n : ℕ} {t : List ℕ} {ms : List Member} → SpellsMembers n t ms → (k : List Frame) → suc (length k) ≡ n → (c : ℕ) → Delimits c → (s : State) → step (after_members ms k) c ≡ Some s → Go (at (InObject [] [] ∷ k) FirstKeyDue) (t ++ c ∷ []) s
   members_go (first_member m i me) k same c dc s h = member_goes i k same FirstKeyDue (inr refl) [] [] (λ has. omega (arith, has.1)) c dc s (ap (λ x. step (after_members x k) c) (sym me) ∙ h)
   members_go (next_member front last ms m f l new te me) k same c dc s h =
       along (ap (λ x. x ++ c ∷ []) te ∙ append_assoc (front ++ 44 ∷ []) last (c ∷ []))

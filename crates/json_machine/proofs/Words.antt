@@ -11,7 +11,7 @@ use borrow.Author.Tests.{ltb-true, lt-ltb}
 use lib.Utf8.{encode, scalar_cases, low_scalar}
 use Rattle.json_tree.specs.Word.{IsUnescaped, escaped_by, IsHexadecimal, SpellsUnit, IsHighSurrogate, IsLowSurrogate, SpellsCharacter, itself, escaped, by_unit, by_pair, SpellsCharacters, none, more}
 use Rattle.json_machine.specs.WordScan.{WordPart, Between, Character, Escape, Unit0, Unit1, Unit2, Unit3, High, LowEscape, Low0, Low1, Low2, Low3, WordState, word_start, in_part, put, paired, is_high_surrogate, with_first_of_two, with_first_of_three, with_first_of_four, first_of_four, first_of_three, lead, between, with_code, at_escape, with_digit, with_two, with_unit, with_low_one, with_low_two, by_part, next_character}
-use Rattle.json_machine.proofs.Goes.{Goes, then_goes, byte_goes, none_goes, along}
+use Rattle.first_fault.proofs.Goes.{Goes, then_goes, byte_goes, none_goes, along}
 
 -- ---- the UTF-8 of a character
 

@@ -1,4 +1,3 @@
-pub mod NumberScan
 pub mod WordScan
 pub mod Machine
 pub mod Opens

@@ -5,7 +5,7 @@ use Rattle.std.specs.Str.{bytes_eq}
 use Rattle.json_tree.specs.declared.tree.Json.{Json, Null, Truth, Number, Word}
 use Rattle.json_tree.specs.declared.tree.Json.TheViews as trees
 use Rattle.json_tree.specs.declared.tree.Member.{Member}
-use Rattle.json_machine.specs.NumberScan.{begins_number, is_number}
+use Rattle.json_tree.specs.Scan.{begins_number, is_number}
 use Rattle.json_machine.specs.WordScan.{WordState, word_start, next_character, is_between}
 
 -- a list or an object that is open: the values in it that are done, or the members that are done and the key in hand

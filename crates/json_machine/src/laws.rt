@@ -1,20 +1,12 @@
-ghost use Rattle.std.specs.Prelude.{◌≡◌, ◌↔◌, ◌++◌, [], ◌∷◌, ℕ, List, Some, IsTrue, codes, replicate};
+ghost use Rattle.std.specs.Prelude.{◌≡◌, ◌++◌, [], ◌∷◌, ℕ, List, Some, codes, replicate};
 ghost use Rattle.first_fault.specs.FirstFault.{IsAccepted};
 ghost use Rattle.first_fault.specs.Machine.{Decides, answer};
-ghost use Rattle.json_tree.specs.Number.{IsFullNumber};
 ghost use Rattle.json_tree.specs.Spells.{Spells};
 ghost use Rattle.json_tree.specs.Printed.{printed};
 ghost use Rattle.json_tree.specs.Tree.{HasTexts, IsProper};
 ghost use Rattle.json_tree.specs.declared.tree.Json.{Json, Number, Word};
 ghost use Rattle.json_tree.specs.declared.tree.Json.TheViews as trees;
 ghost use Rattle.json_machine.specs.Machine.{step, finish, start};
-ghost use Rattle.json_machine.specs.NumberScan.{is_number, begins_number, BeginsNumber};
-
-/// The tests of number texts, byte by byte, are right.
-pub fn number_tests()
-    ensures whole { (text : List ℕ) → IsTrue (is_number text) ↔ IsFullNumber text }
-    ensures begins { (text : List ℕ) → IsTrue (begins_number text) ↔ BeginsNumber text }
-{}
 
 /// No text spells two trees.
 pub fn one_tree()
@@ -49,6 +41,14 @@ pub fn short_texts()
     ensures lone_low { ¬ IsAccepted Spells (codes "\"\\uDC00\"") }
     ensures lone_high { ¬ IsAccepted Spells (codes "\"\\ud83d\"") }
     ensures control { ¬ IsAccepted Spells (34 ∷ 31 ∷ 34 ∷ []) }
+
+    // The bytes round the ranges of hexadecimal digits are none.
+    ensures before_0 { ¬ IsAccepted Spells (codes "\"\\u000/\"") }
+    ensures after_9 { ¬ IsAccepted Spells (codes "\"\\u000:\"") }
+    ensures before_upper { ¬ IsAccepted Spells (codes "\"\\u000@\"") }
+    ensures after_upper { ¬ IsAccepted Spells (codes "\"\\u000G\"") }
+    ensures before_lower { ¬ IsAccepted Spells (codes "\"\\u000`\"") }
+    ensures after_lower { ¬ IsAccepted Spells (codes "\"\\u000g\"") }
 
     // The bytes of a longer form, of a surrogate, and of what is past U+10FFFF.
     ensures overlong { ¬ IsAccepted Spells (34 ∷ 192 ∷ 128 ∷ 34 ∷ []) }

@@ -3,4 +3,4 @@
 
 mod laws;
 
-pub use laws::{machine_decides, number_tests, one_tree, reads_back, short_texts};
+pub use laws::{machine_decides, one_tree, reads_back, short_texts};

@@ -26,7 +26,7 @@ new_word xs ys x d c =
     let here : get_or (xs ++ x ∷ ys) (length xs) x ≡ x = grind (arith, common_steps) in
     d c.0 (length xs) x c.1 (omega (arith, length-append xs (x ∷ ys))) (there ∙ sym here)
 
-distinct_more : (xs : List (List ℕ)) (x : List ℕ) → AreDistinct xs → ¬ Contains xs x → AreDistinct (xs ++ x ∷ [])
+pub distinct_more : (xs : List (List ℕ)) (x : List ℕ) → AreDistinct xs → ¬ Contains xs x → AreDistinct (xs ++ x ∷ [])
 distinct_more xs x d new i j e less within same =
     let front : i < length xs = omega (arith, length-append xs (x ∷ [])) in
     let left : get_or (xs ++ x ∷ []) i e ≡ get_or xs i e = get_or_append_left xs (x ∷ []) e i front in

@@ -19,6 +19,10 @@ joined_last (x ∷ xs) y =
     joined x (xs ++ y ∷ []) ∙ ap (λ t. x ++ t) (flat_map-append (λ y. 44 ∷ y) xs (y ∷ []))
     ∙ (rw (joined x xs, comma (length xs)) (simp (append_assoc, append-nil)))
 
+pub with_last : {X : Type 0} (P : X → Type 0) (xs : List X) (x : X) → AllByRecursion P xs → P x → AllByRecursion P (xs ++ x ∷ [])
+with_last P [] x all p = (p, tt)
+with_last P (y ∷ ys) x all p = (all.0, with_last P ys x all.1 p)
+
 module _ {X : Type 0} (xs : List X) (i : ℕ) (x : X) (less : i < length xs) (is : x ≡ get_or xs i x) where
   taken : take (i + 1) xs ≡ take i xs ++ x ∷ []
   taken = take_more xs i x less ∙ ap (λ y. take i xs ++ y ∷ []) (sym is)
@@ -33,8 +37,4 @@ module _ {X : Type 0} (xs : List X) (i : ℕ) (x : X) (less : i < length xs) (is
       rw (a, m, b, all) (simp append_assoc)
 
   pub all_more : (P : X → Type 0) → P x → AllByRecursion P (take i xs) → AllByRecursion P (take (i + 1) xs)
-  all_more P p all = subst (AllByRecursion P) (sym taken) (with_last (take i xs) all)
-    where
-      with_last : (ys : List X) → AllByRecursion P ys → AllByRecursion P (ys ++ x ∷ [])
-      with_last [] a = (p, tt)
-      with_last (y ∷ ys) a = (a.0, with_last ys a.1)
+  all_more P p all = subst (AllByRecursion P) (sym taken) (with_last P (take i xs) x all p)

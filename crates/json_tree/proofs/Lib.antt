@@ -1,7 +1,9 @@
 pub mod Numbers
+pub mod NumberBytes
 pub mod Trees
 pub mod Distinct
 pub mod ProperTrees
 pub mod Outcomes
 pub mod Joined
 pub mod Spelling
+pub mod SpelledTrees

@@ -8,7 +8,7 @@ use Rattle.std.proofs.lemmas.Bool.{cases_eq, cases_lt, and_parts}
 use Rattle.std.proofs.lemmas.Bool.Decides.{nat_tests}
 use Rattle.std.proofs.lemmas.Str.{encodes-chars, scalars-chars, digit_value-digit_char}
 use lib.Utf8.{scalars}
-use Rattle.json_tree.specs.Number.{IsFullNumber}
+use Rattle.json_tree.specs.Number.{IsNumber}
 use Rattle.json_tree.specs.Printed.{printed, printed_member, printed_word, printed_character, printed_control}
 use Rattle.json_tree.specs.Spells.{Spells, SpellsValue, SpellsItem, SpellsItems, SpellsMember, SpellsMembers, null, truth, number, word, empty_list, list, empty_object, object, item, first, next, member, first_member, next_member}
 use Rattle.json_tree.specs.Word.{IsHexadecimal, SpellsUnit, SpellsCharacter, itself, escaped, by_unit, SpellsCharacters, none, more, SpellsWord}
@@ -169,7 +169,7 @@ layer_spells layers.Null = subst ValueSpells (sym trees.rolls-Null) (λ depth t 
 layer_spells (layers.Truth is) = subst ValueSpells (sym (trees.rolls-Truth is)) (λ depth t d n. truth is (printed-Truth is) refl)
 layer_spells (layers.Number text) = subst ValueSpells (sym (trees.rolls-Number text)) (λ depth t d n.
     let same = printed-Number text in
-    number (subst IsFullNumber (sym same) (every_number HasText (λ m. IsUtf8 m.key) text t)) (ap Number (sym same)))
+    number (subst IsNumber (sym same) (every_number HasText (λ m. IsUtf8 m.key) text t)) (ap Number (sym same)))
 layer_spells (layers.Word w) = subst ValueSpells (sym (trees.rolls-Word w)) (λ depth t d n.
     let same = printed-Word w in
     word w (subst (λ text. SpellsWord text w) (sym same) (spells_word w (every_word HasText (λ m. IsUtf8 m.key) w t))) refl)

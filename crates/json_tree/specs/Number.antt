@@ -20,14 +20,6 @@ IsMinusOrNone text = (text ≡ 45 ∷ []) ⊎ (text ≡ [])
 abbrev pub IsInt : List ℕ → Type 0
 IsInt text = (text ≡ 48 ∷ []) ⊎ ((first : ℕ) × (rest : List ℕ) × (text ≡ first ∷ rest) × IsDigit1To9 first × AreDigits rest)
 
--- a number without a fraction and an exponent: a minus or nothing, and an int
-abbrev pub IsNumber : List ℕ → Type 0
-IsNumber text = (minus int : List ℕ) × (text ≡ minus ++ int) × IsMinusOrNone minus × IsInt int
-
--- some such number begins with these bytes
-abbrev pub BeginsNumber : List ℕ → Type 0
-BeginsNumber text = (more : List ℕ) × IsNumber (text ++ more)
-
 -- digits, at least one
 abbrev pub AreSomeDigits : List ℕ → Type 0
 AreSomeDigits text = (first : ℕ) × (rest : List ℕ) × (text ≡ first ∷ rest) × IsAsciiDigit first × AreDigits rest
@@ -45,6 +37,10 @@ abbrev pub IsExponent : List ℕ → Type 0
 IsExponent text = (e : ℕ) × (sign digits : List ℕ) × (text ≡ e ∷ sign ++ digits) × ((e ≡ 101) ⊎ (e ≡ 69)) × IsSignOrNone sign × AreSomeDigits digits
 
 -- a number: a minus or nothing, an int, a fraction or nothing, and an exponent or nothing
-abbrev pub IsFullNumber : List ℕ → Type 0
-IsFullNumber text = (minus int fraction exponent : List ℕ) × (text ≡ minus ++ int ++ fraction ++ exponent) × IsMinusOrNone minus × IsInt int
+abbrev pub IsNumber : List ℕ → Type 0
+IsNumber text = (minus int fraction exponent : List ℕ) × (text ≡ minus ++ int ++ fraction ++ exponent) × IsMinusOrNone minus × IsInt int
     × (IsFraction fraction ⊎ (fraction ≡ [])) × (IsExponent exponent ⊎ (exponent ≡ []))
+
+-- some number begins with these bytes
+abbrev pub BeginsNumber : List ℕ → Type 0
+BeginsNumber text = (more : List ℕ) × IsNumber (text ++ more)

@@ -2,7 +2,7 @@
 -- Lists and objects nest at most 64 deep, and the keys of one object are distinct as the words that they spell.
 use Rattle.std.specs.Prelude.{◌≡◌, ℕ, suc, ◌<◌, List, [], ◌∷◌, ◌++◌, Bool, true, false, codes}
 use Rattle.json_tree.specs.Blank.{AreBlanks}
-use Rattle.json_tree.specs.Number.{IsFullNumber}
+use Rattle.json_tree.specs.Number.{IsNumber}
 use Rattle.json_tree.specs.Word.{SpellsWord}
 use Rattle.json_tree.specs.Tree.{HasKey}
 use Rattle.json_tree.specs.declared.tree.Json.{Json, Null, Truth, Number, Word}
@@ -18,7 +18,7 @@ mutual
   pub data SpellsValue : ℕ → List ℕ → Json → Type 0 where
     null : {depth : ℕ} {text : List ℕ} {tree : Json} → text ≡ codes "null" → tree ≡ Null → SpellsValue depth text tree
     truth : {depth : ℕ} {text : List ℕ} {tree : Json} (is : Bool) → text ≡ truth_word is → tree ≡ Truth is → SpellsValue depth text tree
-    number : {depth : ℕ} {text : List ℕ} {tree : Json} → IsFullNumber text → tree ≡ Number text → SpellsValue depth text tree
+    number : {depth : ℕ} {text : List ℕ} {tree : Json} → IsNumber text → tree ≡ Number text → SpellsValue depth text tree
     word : {depth : ℕ} {text : List ℕ} {tree : Json} (word : List ℕ) → SpellsWord text word → tree ≡ Word word → SpellsValue depth text tree
     empty_list : {depth : ℕ} {text : List ℕ} {tree : Json} (blanks : List ℕ) → depth < 64 → AreBlanks blanks → text ≡ (91 ∷ []) ++ blanks ++ (93 ∷ []) → tree ≡ trees.List [] → SpellsValue depth text tree
     list : {depth : ℕ} {text : List ℕ} {tree : Json} (inner : List ℕ) (items : List Json) → depth < 64 → SpellsItems (suc depth) inner items

@@ -1,6 +1,6 @@
 -- The tree that a text spells: its keys, how deep its lists and objects nest, and which trees texts spell.
 use Rattle.std.specs.Prelude.{◌≢◌, ℕ, suc, ◌≤◌, max, List, [], ◌∷◌, map, Contains, AllPairs, IsUtf8}
-use Rattle.json_tree.specs.Number.{IsFullNumber}
+use Rattle.json_tree.specs.Number.{IsNumber}
 use Rattle.json_tree.specs.declared.tree.Json.{Json, Json-F, fold-Json}
 use Rattle.json_tree.specs.declared.tree.Json.TheFolds.{fold-Member, every-Json, every-Member}
 use Rattle.json_tree.specs.declared.tree.Json.TheOpen.{Member-F}
@@ -58,7 +58,7 @@ IsProper tree = IsProperWithin 64 tree
 
 -- the text of a number spells one, and a word is UTF-8
 abbrev pub HasText : Json-F Json Member → Type 0
-HasText (layers.Number text) = IsFullNumber text
+HasText (layers.Number text) = IsNumber text
 HasText (layers.Word word) = IsUtf8 word
 HasText layer = Unit {0}
 

@@ -1,8 +1,9 @@
-//! JSON as a tree. So far it has the texts of numbers.
+//! JSON as a tree: the grammar of its text, its printed form, and the texts of numbers with a scanner for them.
 #![tactic(auto)]
 
 mod access;
 mod copying;
+mod laws;
 mod number;
 mod phase;
 mod printing;
@@ -12,6 +13,7 @@ mod tree;
 
 pub use access::{Step, at};
 pub use copying::copy;
+pub use laws::{number_tests, spelled_trees_are_proper};
 pub use number::NumberText;
 pub use printing::{print, printed_form_spells};
 pub use proper::is_proper;

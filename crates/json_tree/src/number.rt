@@ -6,8 +6,8 @@ use fold_base::Text;
 use std::alloc::{AllocError, Global};
 use std::marker::Model;
 
-/// A text that spells a JSON number (RFC 8259, section 6), without a fraction and an exponent as yet. It is kept as it
-/// was spelled: `-0` and `0` are two of them.
+/// A text that spells a JSON number (RFC 8259, section 6). It is kept as it was spelled: `-0` and `0` are two of them, and
+/// so are `1.5` and `1.50`.
 #[derive(Debug, Drop)]
 pub struct NumberText {
     text: Text,

@@ -12,6 +12,16 @@ pub enum Phase {
     Zero,
     /// A digit 1 to 9, and digits after it.
     Digits,
+    /// The point, which a digit has to follow.
+    Point,
+    /// A digit after the point.
+    Fraction,
+    /// The `e`, which a sign or a digit has to follow.
+    Exponent,
+    /// The sign of the exponent, which a digit has to follow.
+    Sign,
+    /// A digit of the exponent.
+    ExponentDigits,
 }
 
 impl Phase {
@@ -24,6 +34,13 @@ impl Phase {
             (Phase::Start | Phase::Minus, b'0') => Some(Phase::Zero),
             (Phase::Start | Phase::Minus, b'1'..=b'9') => Some(Phase::Digits),
             (Phase::Digits, b'0'..=b'9') => Some(Phase::Digits),
+            (Phase::Zero | Phase::Digits, b'.') => Some(Phase::Point),
+            (Phase::Point | Phase::Fraction, b'0'..=b'9') => Some(Phase::Fraction),
+            (Phase::Zero | Phase::Digits | Phase::Fraction, b'e' | b'E') => Some(Phase::Exponent),
+            (Phase::Exponent, b'-' | b'+') => Some(Phase::Sign),
+            (Phase::Exponent | Phase::Sign | Phase::ExponentDigits, b'0'..=b'9') => {
+                Some(Phase::ExponentDigits)
+            }
             _ => None,
         }
     }
@@ -32,6 +49,9 @@ impl Phase {
     pub fn is_whole(self) -> bool
         ensures { result ≡ is_whole self }
     {
-        matches!(self, Phase::Zero | Phase::Digits)
+        matches!(
+            self,
+            Phase::Zero | Phase::Digits | Phase::Fraction | Phase::ExponentDigits
+        )
     }
 }

@@ -37,6 +37,14 @@ impl NumberScanner {
         }
     }
 
+    /// Begins anew, whatever it has taken.
+    pub fn restart(&mut self)
+        ensures { self.new ≡ [] }
+    {
+        self.text.clear();
+        self.phase = Phase::Start;
+    }
+
     /// Takes one more byte. `false`: it can't stand here, and is not taken.
     pub fn take(&mut self, byte: u8) -> Result<bool, AllocError>
         // A byte can stand where some number begins with the bytes so far and this one.

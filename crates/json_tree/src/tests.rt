@@ -6,13 +6,23 @@ use std::test::Fail;
 #[test]
 fn reads_number_texts(rt: HostRuntime) -> Result<(), Fail> {
     let alloc = rt.alloc();
-    for text in ["0", "-0", "7", "-120", "9007199254740993"] {
+    for text in [
+        "0",
+        "-120",
+        "9007199254740993",
+        "1.5",
+        "1e3",
+        "1.50e+02",
+        "-0.0E-7",
+    ] {
         let number = NumberText::read(Text::from_text(alloc, text)?)
             .ok()
             .ok_or(text)?;
         assert_eq!(rt; number.copy(alloc)?.as_str(), text);
     }
-    for text in ["", "-", "01", "-01", "+1", " 1", "1.5", "1e3", "--1"] {
+    for text in [
+        "", "-", "01", "+1", " 1", "--1", "1.", ".5", "1.e3", "1.5.2", "1e", "1e+", "-e1",
+    ] {
         let given = NumberText::read(Text::from_text(alloc, text)?)
             .err()
             .ok_or(text)?;
@@ -25,7 +35,7 @@ fn reads_number_texts(rt: HostRuntime) -> Result<(), Fail> {
 fn scans_two_numbers(rt: HostRuntime) -> Result<(), Fail> {
     let alloc = rt.alloc();
     let mut scanner = NumberScanner::new(alloc);
-    for text in ["-10", "4"] {
+    for text in ["-10.5", "4E2"] {
         for byte in text.bytes() {
             assert!(rt; scanner.take(byte)?, "{byte} of {text}");
         }
@@ -48,14 +58,16 @@ fn member(alloc: Global, key: &str, value: Json) -> Result<Member, Fail> {
     Ok(Member { key, value })
 }
 
-// {"file_spec":1,"vertices_coords":[[150,-0]]}
+// {"file_spec":1.1,"vertices_coords":[[1.50e+02,-0]]}
 fn square(alloc: Global) -> Result<Json, Fail> {
     let mut point = List::new(alloc);
-    point.push(number(alloc, "150")?).map_err(AllocError::from)?;
+    point
+        .push(number(alloc, "1.50e+02")?)
+        .map_err(AllocError::from)?;
     point.push(number(alloc, "-0")?).map_err(AllocError::from)?;
     let mut points = List::new(alloc);
     points.push(Json::List(point)).map_err(AllocError::from)?;
-    let spec = member(alloc, "file_spec", number(alloc, "1")?)?;
+    let spec = member(alloc, "file_spec", number(alloc, "1.1")?)?;
     let coords = member(alloc, "vertices_coords", Json::List(points))?;
     let mut members = List::new(alloc);
     members.push(spec).map_err(AllocError::from)?;
@@ -67,13 +79,13 @@ fn square(alloc: Global) -> Result<Json, Fail> {
 fn prints_a_tree_and_its_copy(rt: HostRuntime) -> Result<(), Fail> {
     let alloc = rt.alloc();
     let tree = square(alloc)?;
-    let text = "{\"file_spec\":1,\"vertices_coords\":[[150,-0]]}";
+    let text = "{\"file_spec\":1.1,\"vertices_coords\":[[1.50e+02,-0]]}";
     assert_eq!(rt; print(alloc, &tree)?.as_str(), text);
     assert_eq!(rt; print(alloc, &copy(alloc, &tree)?)?.as_str(), text);
     assert!(rt; is_proper(&tree));
     let points = at(&tree, Step::Key(b"vertices_coords")).ok_or("vertices_coords")?;
     let point = at(points, Step::Place(0)).ok_or("point")?;
-    assert_eq!(rt; print(alloc, point)?.as_str(), "[150,-0]");
+    assert_eq!(rt; print(alloc, point)?.as_str(), "[1.50e+02,-0]");
     assert!(rt; at(points, Step::Place(1)).is_none());
     assert!(rt; at(&tree, Step::Key(b"file")).is_none());
     Ok(())

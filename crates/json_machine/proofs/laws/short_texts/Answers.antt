@@ -73,3 +73,21 @@ returns-clause-nothing c = refused _ refl
 
 pub returns-clause-comma_last : goal.returns-clause-comma_last
 returns-clause-comma_last c = refused _ refl
+
+pub returns-clause-before_0 : goal.returns-clause-before_0
+returns-clause-before_0 c = refused _ refl
+
+pub returns-clause-after_9 : goal.returns-clause-after_9
+returns-clause-after_9 c = refused _ refl
+
+pub returns-clause-before_upper : goal.returns-clause-before_upper
+returns-clause-before_upper c = refused _ refl
+
+pub returns-clause-after_upper : goal.returns-clause-after_upper
+returns-clause-after_upper c = refused _ refl
+
+pub returns-clause-before_lower : goal.returns-clause-before_lower
+returns-clause-before_lower c = refused _ refl
+
+pub returns-clause-after_lower : goal.returns-clause-after_lower
+returns-clause-after_lower c = refused _ refl

@@ -3,7 +3,6 @@ use Rattle.std.specs.List.{AllByRecursion}
 use Rattle.std.proofs.lemmas.Grind.{common_steps}
 use Rattle.json_tree.specs.Printed.{printed, printed_member}
 use Rattle.json_tree.specs.Tree.{HasText, HasTexts, MemberHasTexts}
-use Rattle.json_tree.proofs.Numbers.{full_number}
 use Rattle.json_tree.proofs.Outcomes.{on_ok, on_ok_by}
 use Rattle.json_tree.proofs.Trees.{printed-List, printed-Object, every-Null, every-Truth, every-Number, every-Word, every-List, every-Object, every_member}
 use Rattle.json_tree.proofs.Joined.{joined_more, all_more}
@@ -34,7 +33,7 @@ pub put_value-returns-in-Truth-false-clause-texts : goal.put_value-returns-in-Tr
 put_value-returns-in-Truth-false-clause-texts t c = on_ok _ (subst HasTexts (sym c.in-Truth-false.is) (every-Truth HasText (λ m. IsUtf8 m.key) _ tt))
 
 pub put_value-returns-in-Number-clause-texts : goal.put_value-returns-in-Number-clause-texts
-put_value-returns-in-Number-clause-texts t c = on_ok _ (subst HasTexts (sym c.in-Number.is) (every-Number HasText (λ m. IsUtf8 m.key) _ (full_number _ c.as_str.ensures.number)))
+put_value-returns-in-Number-clause-texts t c = on_ok _ (subst HasTexts (sym c.in-Number.is) (every-Number HasText (λ m. IsUtf8 m.key) _ c.as_str.ensures.number))
 
 pub put_value-returns-in-Word-clause-texts : goal.put_value-returns-in-Word-clause-texts
 put_value-returns-in-Word-clause-texts t c = on_ok_by _ c.put_word.ensures.utf8 (λ u. subst HasTexts (sym c.in-Word.is) (every-Word HasText (λ m. IsUtf8 m.key) _ u))

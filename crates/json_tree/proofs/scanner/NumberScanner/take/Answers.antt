@@ -1,7 +1,8 @@
 use Rattle.std.proofs.Common.{◌≡◌, ◌<◌, ◌∷◌, ◌++◌, [], sym, ◌∙◌, ap, arith, Some, None, true, false}
 use Rattle.std.specs.Prelude.{is_some, string_bytes}
 use Rattle.json_tree.specs.Scan.{phase_after}
-use Rattle.json_tree.proofs.Numbers.{byte_taken, ascii_taken, begun_by}
+use Rattle.json_tree.proofs.Numbers.{byte_taken, begun_by}
+use Rattle.json_tree.proofs.NumberBytes.{ascii_taken}
 use Rattle.json_tree.proofs.scanner.NumberScanner.take.Goals as goal
 
 pub invariant_of-self-in-Some : goal.invariant_of-self-in-Some

@@ -1,0 +1,5 @@
+use Rattle.json_tree.proofs.SpelledTrees.{spelled}
+use Rattle.json_tree.proofs.laws.spelled_trees_are_proper.Goals as goal
+
+pub returns : goal.returns
+returns c = record { proper = λ text tree s. (spelled text tree s).0; texts = λ text tree s. (spelled text tree s).1 }
