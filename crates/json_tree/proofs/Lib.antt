@@ -7,3 +7,4 @@ pub mod Outcomes
 pub mod Joined
 pub mod Spelling
 pub mod SpelledTrees
+pub mod SpelledLengths

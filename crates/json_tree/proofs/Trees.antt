@@ -101,6 +101,9 @@ module _ (Q : Json-F Json Member → Type 0) (Q' : layers.Member-F Json Member �
   pub every_members : (members : List Member) → Every (trees.Object members) → AllByRecursion EveryMember members
   every_members members all = let held = every_held-Json Q Q' (trees.Object members) all in members_of members held.0 (held.1 ∙ trees.outs-Object members)
 
+  pub every_length : (items : List Json) → Every (trees.List items) → Q (layers.List items)
+  every_length items all = subst Q (trees.outs-List items) (every_here-Json Q Q' (trees.List items) all)
+
   pub every_keys : (members : List Member) → Every (trees.Object members) → Q (layers.Object members)
   every_keys members all = subst Q (trees.outs-Object members) (every_here-Json Q Q' (trees.Object members) all)
 

@@ -1,5 +1,5 @@
--- The tree that a text spells: its keys, how deep its lists and objects nest, and which trees texts spell.
-use Rattle.std.specs.Prelude.{◌≢◌, ℕ, suc, ◌≤◌, max, List, [], ◌∷◌, map, Contains, AllPairs, IsUtf8}
+-- The tree that a text spells: its keys, how deep its lists and objects nest, how long they are, and which trees texts spell.
+use Rattle.std.specs.Prelude.{◌≢◌, ℕ, suc, ◌≤◌, max, List, [], ◌∷◌, length, map, Contains, AllPairs, IsUtf8}
 use Rattle.json_tree.specs.Number.{IsNumber}
 use Rattle.json_tree.specs.declared.tree.Json.{Json, Json-F, fold-Json}
 use Rattle.json_tree.specs.declared.tree.Json.TheFolds.{fold-Member, every-Json, every-Member}
@@ -68,3 +68,16 @@ HasTexts tree = every-Json HasText (λ m. IsUtf8 m.key) tree
 
 abbrev pub MemberHasTexts : Member → Type 0
 MemberHasTexts m = every-Member HasText (λ m. IsUtf8 m.key) m
+
+-- a list has at most so many elements, and an object at most so many members
+abbrev pub HasLengthUpTo : ℕ → Json-F Json Member → Type 0
+HasLengthUpTo most (layers.List items) = length items ≤ most
+HasLengthUpTo most (layers.Object members) = length members ≤ most
+HasLengthUpTo most layer = Unit {0}
+
+-- no list and no object in the tree is longer
+abbrev pub HasLengthsUpTo : ℕ → Json → Type 0
+HasLengthsUpTo most tree = every-Json (HasLengthUpTo most) (λ m. Unit {0}) tree
+
+abbrev pub MemberHasLengthsUpTo : ℕ → Member → Type 0
+MemberHasLengthsUpTo most m = every-Member (HasLengthUpTo most) (λ m. Unit {0}) m

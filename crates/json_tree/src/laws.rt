@@ -1,8 +1,8 @@
-ghost use Rattle.std.specs.Prelude.{◌↔◌, ℕ, List, IsTrue};
+ghost use Rattle.std.specs.Prelude.{◌↔◌, ℕ, List, length, IsTrue};
 ghost use Rattle.json_tree.specs.Number.{IsNumber, BeginsNumber};
 ghost use Rattle.json_tree.specs.Scan.{is_number, begins_number};
 ghost use Rattle.json_tree.specs.Spells.{Spells};
-ghost use Rattle.json_tree.specs.Tree.{HasTexts, IsProper};
+ghost use Rattle.json_tree.specs.Tree.{HasTexts, HasLengthsUpTo, IsProper};
 ghost use Rattle.json_tree.specs.declared.tree.Json.{Json};
 
 /// The tests of number texts, byte by byte, are right.
@@ -11,8 +11,10 @@ pub fn number_tests()
     ensures begins { (text : List ℕ) → IsTrue (begins_number text) ↔ BeginsNumber text }
 {}
 
-/// The tree that a text spells is proper, and its texts are numbers and UTF-8.
+/// The tree that a text spells is proper, its texts are numbers and UTF-8, and none of its lists and objects has more
+/// elements or members than the text has bytes.
 pub fn spelled_trees_are_proper()
     ensures proper { (text : List ℕ) (tree : Json) → Spells text tree → IsProper tree }
     ensures texts { (text : List ℕ) (tree : Json) → Spells text tree → HasTexts tree }
+    ensures lengths { (text : List ℕ) (tree : Json) → Spells text tree → HasLengthsUpTo (length text) tree }
 {}
