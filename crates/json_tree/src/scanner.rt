@@ -9,7 +9,7 @@ use std::alloc::{AllocError, Global};
 use std::marker::Model;
 
 /// The text of a number while it is read byte by byte, for a reader of a larger format. Its bytes are those that it has
-/// taken since it was made or last gave a number. One scanner serves for many numbers and keeps its room.
+/// taken since it was made, began anew or last gave a number. One scanner serves for many numbers and keeps its room.
 #[derive(Debug, Drop)]
 pub struct NumberScanner {
     text: String,
@@ -80,8 +80,7 @@ impl NumberScanner {
         ensures err { OnErr result (self.new ≡ self.old) }
     {
         let text = Text::from_text(alloc, self.text.as_str())?;
-        self.text.clear();
-        self.phase = Phase::Start;
+        self.restart();
         Ok(NumberText::from_scanned(text))
     }
 }

@@ -1,0 +1,12 @@
+pub mod Causes
+pub mod FaultText
+pub mod Frames
+pub mod Keys
+pub mod Reader
+pub mod Reads
+pub mod Signs
+pub mod StackModel
+pub mod Stops
+pub mod Views
+pub mod WordModel
+pub mod WordView

@@ -1,0 +1,24 @@
+//! JSON text that comes in pieces, read to a tree or to its first fault.
+#![tactic(auto)]
+
+mod character;
+mod fault;
+mod frame;
+mod key;
+mod laws;
+mod machine;
+mod phase;
+mod reader;
+mod run;
+mod sign;
+mod stack;
+mod token;
+mod value;
+mod word;
+
+pub use fault::{JsonCause, JsonFault, JsonReadFault};
+pub use laws::{one_reading, reads_back, short_faults};
+pub use reader::{JsonReader, reader_laws};
+
+#[cfg(test)]
+mod tests;

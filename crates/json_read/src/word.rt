@@ -1,0 +1,152 @@
+ghost use Rattle.std.specs.Prelude.{◌≡◌, ◌≢◌, ◌↔◌, ◌<◌, ◌≤◌, Some, None, false, IsTrue, IfOk, OnOk, if◌then◌else◌};
+ghost use Rattle.json_machine.specs.WordScan.{WordState, between, is_between, next_character, put, word_start};
+
+use crate::character::{Part, Step};
+use fold_base::Text;
+use std::alloc::{AllocError, Global};
+use std::marker::Model;
+
+/// The characters of a word while they are read byte by byte: the text of those that are done, and how far the next is.
+/// One scanner serves for many words and keeps its room.
+#[derive(Debug, Drop)]
+pub struct WordScanner {
+    text: String,
+    part: Part,
+}
+
+impl Model for WordScanner {
+    ghost use Rattle.json_machine.specs.WordScan.{WordState};
+
+    ghost Value = { WordState };
+
+    ghost use Rattle.json_read.specs.WordView.{IsSound};
+    ghost use Rattle.json_read.specs.WordModel.{word_state};
+
+    ghost view = { word_state };
+
+    ghost invariant = { λ s. IsSound s.part };
+}
+
+impl WordScanner {
+    pub fn new(alloc: Global) -> WordScanner
+        ensures { result ≡ word_start }
+    {
+        WordScanner {
+            text: String::new(alloc),
+            part: Part::Between,
+        }
+    }
+
+    /// Begins anew, whatever it has taken.
+    pub fn restart(&mut self)
+        ensures { self.new ≡ word_start }
+    {
+        self.text.clear();
+        self.part = Part::Between;
+    }
+
+    /// Takes one more byte. `false`: it can't stand here, and is not taken.
+    pub fn take(&mut self, byte: u8) -> Result<bool, AllocError>
+        ensures step { IfOk result (λ went. (if went then Some self.new else None) ≡ next_character self.old byte) }
+        ensures stays { IfOk result (λ went. went ≡ false → self.new ≡ self.old) }
+    {
+        // The commonest byte.
+        if matches!(self.part, Part::Between) && is_plain(byte) {
+            self.text.push(char::from(byte))?;
+            return Ok(true);
+        }
+        match self.part.next(byte) {
+            Some(Step::More(part)) => self.part = part,
+            Some(Step::Whole(character)) => {
+                self.text.push(character)?;
+                self.part = Part::Between;
+            }
+            None => return Ok(false),
+        }
+        Ok(true)
+    }
+
+    /// Whether the word may end here: the last character is whole.
+    pub fn is_between(&self) -> bool
+        ensures { result ≡ is_between self.now.part }
+    {
+        matches!(self.part, Part::Between)
+    }
+
+    /// Gives the text of the word, and begins anew.
+    pub fn finish(&mut self, alloc: Global) -> Result<Text, AllocError>
+        ensures word { IfOk result (λ text. text ≡ self.old.word) }
+        ensures anew { OnOk result (self.new ≡ word_start) }
+    {
+        let text = Text::from_text(alloc, self.text.as_str())?;
+        self.text.clear();
+        self.part = Part::Between;
+        Ok(text)
+    }
+}
+
+/// Whether the byte is a character of a word by itself: ASCII, but no control, quote or backslash.
+fn is_plain(byte: u8) -> bool
+    ensures plain { IsTrue result ↔ (32 ≤ byte) × (byte < 128) × (byte ≢ 34) × (byte ≢ 92) }
+    ensures step { IsTrue result → (w : WordState) → between w byte ≡ Some (put w byte) }
+{
+    matches!(byte, b' '..=0x7F) && byte != b'"' && byte != b'\\'
+}
+
+#[cfg(test)]
+mod tests {
+    use super::*;
+    use std::test::Fail;
+
+    #[test]
+    fn reads_words(rt: HostRuntime) -> Result<(), Fail> {
+        let mut scanner = WordScanner::new(rt.alloc());
+        for (word, text) in [
+            ("", ""),
+            ("plain", "plain"),
+            ("\\\"\\\\\\/\\b\\f\\n\\r\\t", "\"\\/\u{8}\u{c}\n\r\t"),
+            ("\\u0041\\u00e9\\u00E9", "Aéé"),
+            ("\\uD83D\\uDE00", "😀"),
+            ("é€😀", "é€😀"),
+        ] {
+            for byte in word.as_bytes() {
+                assert!(rt; scanner.take(*byte)?, "{word:?}");
+            }
+            assert!(rt; scanner.is_between(), "{word:?}");
+            assert_eq!(rt; scanner.finish(rt.alloc())?.as_str(), text);
+        }
+        Ok(())
+    }
+
+    /// The place of the first byte that is refused.
+    fn refused_at(scanner: &mut WordScanner, bytes: &[u8]) -> Result<Option<usize>, AllocError> {
+        for (place, byte) in bytes.iter().enumerate() {
+            if !scanner.take(*byte)? {
+                return Ok(Some(place));
+            }
+        }
+        Ok(None)
+    }
+
+    #[test]
+    fn refuses_bytes(rt: HostRuntime) -> Result<(), Fail> {
+        for (bytes, place) in [
+            (b"\x1f".as_slice(), 0),
+            (b"\"".as_slice(), 0),
+            (b"\xc0".as_slice(), 0),
+            (b"\xed\xa0".as_slice(), 1),
+            (b"\xf4\x90".as_slice(), 1),
+            (b"\xe2\x82.".as_slice(), 2),
+            (b"\\x".as_slice(), 1),
+            (b"\\u00g".as_slice(), 4),
+            (b"\\uDC00".as_slice(), 3),
+            (b"\\uD83Dx".as_slice(), 6),
+            (b"\\uD83D\\u0041".as_slice(), 8),
+        ] {
+            let mut scanner = WordScanner::new(rt.alloc());
+            assert_eq!(rt; refused_at(&mut scanner, bytes)?, Some(place), "{bytes:?}");
+            assert_eq!(rt; scanner.is_between(), place == 0, "{bytes:?}");
+        }
+        Ok(())
+    }
+}
