@@ -1,4 +1,5 @@
 pub mod Ending
 pub mod Exists
-pub mod TwoWords
+pub mod Following
+pub mod ShownWords
 pub mod Unique

@@ -1,18 +1,22 @@
 -- An outcome is the only one.
-use Rattle.std.proofs.Common.{◌≡◌, ℕ, List, inl, inr, refl, sym, ◌∙◌, ap, subst, arith}
+use Rattle.std.proofs.Common.{◌≡◌, ℕ, List, inl, inr, refl, sym, ◌∙◌, ap, subst, arith, codes}
+use Rattle.std.proofs.lemmas.List.{append_cancel_left}
 use Rattle.cp_lines.specs.CpText.{CpText}
-use Rattle.cp_lines.specs.Reads.{NamesFirstFault}
-use Rattle.cp_lines.specs.declared.line.CpLine.{CpLine}
-use Rattle.cp_lines.specs.declared.fault.CpFault.{CpFault}
+use Rattle.cp_lines.specs.Reads as cp
+use Rattle.json_tree.specs.Spells.{Spells}
+use Rattle.json_read.specs.Causes as json
 use Rattle.fold_program.specs.Steps.{Outcome, Then, Answers}
-use Rattle.fold_program.specs.Words.{IsPlain, AreRefused}
-use Rattle.fold_program.specs.Outcome.{AreTooMany, AreWithin, HasCpFault, Does, HaveOneOutcome}
+use Rattle.fold_program.specs.Words.{name_of, IsPlain, IsWordsCause, AreRefused}
+use Rattle.fold_program.specs.Outcome.{AreTooMany, AreWithin, HasCpFault, HasJsonFault, Does, HaveOneOutcome}
 use Rattle.fold_program.specs.declared.status.Status.{Status}
-use Rattle.fold_program.specs.declared.status.Status.TheVariants.{Text}
+use Rattle.fold_program.specs.declared.status.Status.TheVariants.{Text, Words}
 use Rattle.fold_program.specs.declared.status.TextFault.TheVariants as text
 use Rattle.fold_program.specs.declared.words.Command.{Command}
 use Rattle.fold_program.specs.declared.words.Command.TheVariants.{Show}
-use Rattle.fold_program.specs.declared.words.Format.TheVariants.{Cp}
+use Rattle.fold_program.specs.declared.words.Format.{Format}
+use Rattle.fold_program.specs.declared.words.Format.TheVariants.{Fold, Cp}
+use Rattle.fold_program.specs.declared.status.WordsCause.{WordsCause}
+use Rattle.fold_program.specs.declared.status.WordsCause.TheVariants.{Refused, Value}
 
 -- One status and one text.
 abbrev pub IsOne : Outcome → Type 0
@@ -36,12 +40,28 @@ one_then {X} refuses gives next step one s s' t t' (inr p) (inr q) =
 one_answer : (s : Status) (t : List ℕ) → IsOne (Answers s t)
 one_answer s t a b u v p q = (p.0 ∙ sym q.0, p.1 ∙ sym q.1)
 
+-- A name is of one format.
+one_format : (f g : Format) → name_of f ≡ name_of g → f ≡ g
+one_format Fold Fold e = refl
+one_format Fold Cp e = cc
+one_format Cp Fold e = cc
+one_format Cp Cp e = refl
+
 one_plain : (words : List (List ℕ)) (c d : Command) → IsPlain words c → IsPlain words d → c ≡ d
-one_plain words (Show Cp) (Show Cp) p q = refl
+one_plain words (Show f) (Show g) (inl p) (inl q) = ap Show (one_format f g (append_cancel_left (codes "--from=") (name_of f) (name_of g) (let e = sym p ∙ q in cc)))
+one_plain words (Show f) (Show g) (inl p) (inr q) = absurd (let e = sym p ∙ q.0 in cc)
+one_plain words (Show f) (Show g) (inr p) (inl q) = absurd (let e = sym p.0 ∙ q in cc)
+one_plain words (Show f) (Show g) (inr p) (inr q) = ap Show (p.1 ∙ sym q.1)
+
+one_words_cause : (words : List (List ℕ)) (c d : WordsCause) → IsWordsCause words c → IsWordsCause words d → c ≡ d
+one_words_cause words Refused Refused p q = refl
+one_words_cause words Refused Value p q = absurd (p q)
+one_words_cause words Value Refused p q = absurd (q p)
+one_words_cause words Value Value p q = refl
 
 words_step : (words : List (List ℕ)) → IsStep (AreRefused words) (IsPlain words)
 words_step words = record {
-  one_refusal = λ s s' p q. p.1 ∙ sym q.1;
+  one_refusal = λ s s' p q. p.1.2 ∙ ap Words (one_words_cause words p.1.0 q.1.0 p.1.1 q.1.1) ∙ sym q.1.2;
   one_value = one_plain words;
   apart = λ s x p q. p.0 x q;
 }
@@ -54,20 +74,33 @@ size_step bytes = record {
 }
 
 -- What a text spells is the only thing, as is its first fault, and it doesn't have both.
-pub record HasOneReading : Type 0 where
-  pub lines : (bytes : List ℕ) (v w : List CpLine) → CpText bytes v → CpText bytes w → v ≡ w
-  pub fault : (bytes : List ℕ) (f g : CpFault) → NamesFirstFault bytes f → NamesFirstFault bytes g → f ≡ g
-  pub either : (bytes : List ℕ) (v : List CpLine) (f : CpFault) → CpText bytes v → NamesFirstFault bytes f → ⊥
+pub record HasOneReading {V F : Type 0} (spells : List ℕ → V → Type 0) (names : List ℕ → F → Type 0) : Type 0 where
+  pub value : (bytes : List ℕ) (v w : V) → spells bytes v → spells bytes w → v ≡ w
+  pub fault : (bytes : List ℕ) (f g : F) → names bytes f → names bytes g → f ≡ g
+  pub either : (bytes : List ℕ) (v : V) (f : F) → spells bytes v → names bytes f → ⊥
 
-cp_step : HasOneReading → (bytes : List ℕ) → IsStep (HasCpFault bytes) (CpText bytes)
-cp_step one bytes = record {
-  one_refusal = λ s s' p q. p.2 ∙ ap (λ f. Text (text.Cp f)) (one.fault bytes p.0 q.0 p.1 q.1) ∙ sym q.2;
-  one_value = one.lines bytes;
-  apart = λ s v p q. one.either bytes v p.0 q p.1;
+-- The texts of both formats have one reading.
+pub record HaveOneReading : Type 0 where
+  pub fold : HasOneReading Spells json.NamesFirstFault
+  pub cp : HasOneReading CpText cp.NamesFirstFault
+
+json_step : HaveOneReading → (bytes : List ℕ) → IsStep (HasJsonFault bytes) (Spells bytes)
+json_step one bytes = record {
+  one_refusal = λ s s' p q. p.2 ∙ ap (λ f. Text (text.Json f)) (one.fold.fault bytes p.0 q.0 p.1 q.1) ∙ sym q.2;
+  one_value = one.fold.value bytes;
+  apart = λ s v p q. one.fold.either bytes v p.0 q p.1;
 }
 
-one_done : HasOneReading → (command : Command) (bytes : List ℕ) → IsOne (Does command bytes)
+cp_step : HaveOneReading → (bytes : List ℕ) → IsStep (HasCpFault bytes) (CpText bytes)
+cp_step one bytes = record {
+  one_refusal = λ s s' p q. p.2 ∙ ap (λ f. Text (text.Cp f)) (one.cp.fault bytes p.0 q.0 p.1 q.1) ∙ sym q.2;
+  one_value = one.cp.value bytes;
+  apart = λ s v p q. one.cp.either bytes v p.0 q p.1;
+}
+
+one_done : HaveOneReading → (command : Command) (bytes : List ℕ) → IsOne (Does command bytes)
+one_done one (Show Fold) bytes = one_then _ _ _ (json_step one bytes) (λ tree spells. one_answer _ _)
 one_done one (Show Cp) bytes = one_then _ _ _ (cp_step one bytes) (λ lines spells. one_answer _ _)
 
-pub one_outcome : HasOneReading → (words : List (List ℕ)) (bytes : List ℕ) → HaveOneOutcome words bytes
+pub one_outcome : HaveOneReading → (words : List (List ℕ)) (bytes : List ℕ) → HaveOneOutcome words bytes
 one_outcome one words bytes = one_then _ _ _ (words_step words) (λ command plain. one_then _ _ _ (size_step bytes) (λ given within. one_done one command given))

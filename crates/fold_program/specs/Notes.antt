@@ -2,21 +2,24 @@
 use Rattle.std.specs.Prelude.{◌≡◌, ℕ, List, [], ◌∷◌, ◌++◌, codes}
 use Rattle.std.specs.declared.option.Option.{Option}
 use Rattle.fold_base.specs.Outside.{Gains}
-use Rattle.cp_lines.specs.FaultText.{fault_text}
+use Rattle.cp_lines.specs.FaultText as cp
+use Rattle.json_read.specs.FaultText as json
 use Rattle.fold_program.specs.declared.status.Status.{Status}
 use Rattle.fold_program.specs.declared.status.Status.TheVariants.{Done, Text, Words, Read, Write, Limit, Memory}
 use Rattle.fold_program.specs.declared.status.TextFault.{TextFault}
-use Rattle.fold_program.specs.declared.status.TextFault.TheVariants.{Cp}
+use Rattle.fold_program.specs.declared.status.TextFault.TheVariants.{Json, Cp}
 use Rattle.fold_program.specs.declared.status.WordsCause.{WordsCause}
-use Rattle.fold_program.specs.declared.status.WordsCause.TheVariants.{Refused}
+use Rattle.fold_program.specs.declared.status.WordsCause.TheVariants.{Refused, Value}
 use Rattle.fold_program.specs.declared.status.Limit.{Limit as AnyLimit}
 use Rattle.fold_program.specs.declared.status.Limit.TheVariants.{TooLong}
 
 abbrev pub text_message : TextFault → List ℕ
-text_message (Cp fault) = fault_text fault
+text_message (Json fault) = json.fault_text fault
+text_message (Cp fault) = cp.fault_text fault
 
 abbrev pub words_message : WordsCause → List ℕ
 words_message Refused = codes "words refused"
+words_message Value = codes "words value"
 
 abbrev pub limit_message : AnyLimit → List ℕ
 limit_message TooLong = codes "too long"

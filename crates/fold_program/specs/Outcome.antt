@@ -1,12 +1,16 @@
 -- The outcome of words and bytes, and what it has to do with the outside.
-use Rattle.std.specs.Prelude.{◌≡◌, ◌⊎◌, ℕ, ◌<◌, ◌≤◌, List, length, Some}
+use Rattle.std.specs.Prelude.{◌≡◌, ◌⊎◌, ℕ, ◌<◌, ◌≤◌, List, [], ◌∷◌, ◌++◌, length, Some}
 use Rattle.std.specs.declared.option.Option.{Option}
 use Rattle.fold_base.specs.Outside.{Gains, GainsPart}
 use Rattle.fold_base.specs.declared.outside.TheConstants.{MOST_BYTES}
 use Rattle.cp_lines.specs.CpText.{CpText}
-use Rattle.cp_lines.specs.Print.{printed}
-use Rattle.cp_lines.specs.Reads.{NamesFirstFault}
+use Rattle.cp_lines.specs.Print as cp_form
+use Rattle.cp_lines.specs.Reads as cp
 use Rattle.cp_lines.specs.declared.fault.CpFault.{CpFault}
+use Rattle.json_tree.specs.Printed as json_form
+use Rattle.json_tree.specs.Spells.{Spells}
+use Rattle.json_read.specs.Causes as json
+use Rattle.json_read.specs.declared.fault.JsonFault.{JsonFault}
 use Rattle.fold_program.specs.Status.{IsAnswer}
 use Rattle.fold_program.specs.Steps.{Outcome, Then, Answers}
 use Rattle.fold_program.specs.Words.{IsPlain, HaveNoCommand, AreRefused}
@@ -17,7 +21,7 @@ use Rattle.fold_program.specs.declared.status.Limit.TheVariants.{TooLong}
 use Rattle.fold_program.specs.declared.words.Command.{Command}
 use Rattle.fold_program.specs.declared.words.Command.TheVariants.{Show}
 use Rattle.fold_program.specs.declared.words.Format.{Format}
-use Rattle.fold_program.specs.declared.words.Format.TheVariants.{Cp}
+use Rattle.fold_program.specs.declared.words.Format.TheVariants.{Fold, Cp}
 
 -- There are more bytes than a text may have.
 abbrev pub AreTooMany : List ℕ → Status → Type 0
@@ -29,11 +33,16 @@ AreWithin bytes given = (length bytes ≤ MOST_BYTES) × (given ≡ bytes)
 
 -- The bytes are no CP text, and the status names their first fault.
 abbrev pub HasCpFault : List ℕ → Status → Type 0
-HasCpFault bytes status = (fault : CpFault) × NamesFirstFault bytes fault × (status ≡ Text (text.Cp fault))
+HasCpFault bytes status = (fault : CpFault) × cp.NamesFirstFault bytes fault × (status ≡ Text (text.Cp fault))
 
--- The text of a file, refused at its first fault, or else printed.
+-- The bytes are no JSON text, and the status names their first fault.
+abbrev pub HasJsonFault : List ℕ → Status → Type 0
+HasJsonFault bytes status = (fault : JsonFault) × json.NamesFirstFault bytes fault × (status ≡ Text (text.Json fault))
+
+-- The text of a file, refused at its first fault, or else printed. A printed tree is a line.
 abbrev pub Shows : Format → List ℕ → Outcome
-Shows Cp bytes = Then (HasCpFault bytes) (CpText bytes) (λ lines. Answers Done (printed lines))
+Shows Fold bytes = Then (HasJsonFault bytes) (Spells bytes) (λ tree. Answers Done (json_form.printed tree ++ 10 ∷ []))
+Shows Cp bytes = Then (HasCpFault bytes) (CpText bytes) (λ lines. Answers Done (cp_form.printed lines))
 
 -- What a command makes of the bytes that it may take.
 abbrev pub Does : Command → List ℕ → Outcome

@@ -4,9 +4,11 @@ use Rattle.fold_base.specs.declared.pieces.ReadFault.{ReadFault}
 use Rattle.fold_base.specs.declared.pieces.ReadFault.TheVariants as read
 use Rattle.cp_lines.specs.declared.fault.CpReadFault.{CpReadFault}
 use Rattle.cp_lines.specs.declared.fault.CpReadFault.TheVariants as cp
+use Rattle.json_read.specs.declared.fault.JsonReadFault.{JsonReadFault}
+use Rattle.json_read.specs.declared.fault.JsonReadFault.TheVariants as json
 use Rattle.fold_program.specs.declared.status.Status.{Status}
 use Rattle.fold_program.specs.declared.status.Status.TheVariants.{Done, Text, Words, Read, Write, Limit, Memory}
-use Rattle.fold_program.specs.declared.status.TextFault.TheVariants.{Cp}
+use Rattle.fold_program.specs.declared.status.TextFault.TheVariants.{Json, Cp}
 use Rattle.fold_program.specs.declared.status.Limit.TheVariants.{TooLong}
 
 -- The exit status of the process.
@@ -43,6 +45,11 @@ abbrev pub of_read : ReadFault → Status
 of_read read.Failed = Read
 of_read read.TooLong = Limit TooLong
 of_read (read.Memory error) = Memory
+
+-- The status where the input isn't read as JSON text.
+abbrev pub of_json : JsonReadFault → Status
+of_json (json.Text fault) = Text (Json fault)
+of_json (json.Memory error) = Memory
 
 -- The status where the input isn't read as CP text.
 abbrev pub of_cp : CpReadFault → Status

@@ -1,29 +1,45 @@
 -- The words of the command line.
-use Rattle.std.specs.Prelude.{◌≡◌, ℕ, List, [], ◌∷◌, map, codes, String, string_bytes}
+use Rattle.std.specs.Prelude.{◌≡◌, ℕ, List, [], ◌∷◌, ◌++◌, ◌⊎◌, map, codes, String, string_bytes}
 use Rattle.std.specs.declared.alloc.Global.{Global}
 use Rattle.fold_program.specs.declared.words.Command.{Command}
 use Rattle.fold_program.specs.declared.words.Command.TheVariants.{Show}
-use Rattle.fold_program.specs.declared.words.Format.TheVariants.{Cp}
+use Rattle.fold_program.specs.declared.words.Format.{Format}
+use Rattle.fold_program.specs.declared.words.Format.TheVariants.{Fold, Cp}
 use Rattle.fold_program.specs.declared.status.Status.{Status}
 use Rattle.fold_program.specs.declared.status.Status.TheVariants.{Words}
-use Rattle.fold_program.specs.declared.status.WordsCause.TheVariants.{Refused}
+use Rattle.fold_program.specs.declared.status.WordsCause.{WordsCause}
+use Rattle.fold_program.specs.declared.status.WordsCause.TheVariants.{Refused, Value}
 
 -- The words as texts.
 abbrev pub texts : List (String Global) → List (List ℕ)
 texts words = map string_bytes words
 
--- The words of each command.
-abbrev pub spelling : Command → List (List ℕ)
-spelling (Show Cp) = codes "show" ∷ codes "--from=cp" ∷ []
+-- The value of `--from` that names a format.
+abbrev pub name_of : Format → List ℕ
+name_of Fold = codes "fold"
+name_of Cp = codes "cp"
 
--- They are the words of this command.
+-- `show`, and `--from=` with this value.
+abbrev pub AreShowFrom : List ℕ → List (List ℕ) → Type 0
+AreShowFrom value words = words ≡ codes "show" ∷ (codes "--from=" ++ value) ∷ []
+
+-- They are words of this command. What isn't said is `--from=fold`.
 abbrev pub IsPlain : List (List ℕ) → Command → Type 0
-IsPlain words command = words ≡ spelling command
+IsPlain words (Show format) = AreShowFrom (name_of format) words ⊎ ((words ≡ codes "show" ∷ []) × (format ≡ Fold))
 
 -- They are the words of no command.
 abbrev pub HaveNoCommand : List (List ℕ) → Type 0
 HaveNoCommand words = (command : Command) → ¬ (IsPlain words command)
 
+-- They are words of a command but for a value that its option doesn't take.
+abbrev pub HaveOtherValue : List (List ℕ) → Type 0
+HaveOtherValue words = (value : List ℕ) × AreShowFrom value words × ((format : Format) → ¬ (value ≡ name_of format))
+
+-- Why words of no command are refused.
+abbrev pub IsWordsCause : List (List ℕ) → WordsCause → Type 0
+IsWordsCause words Value = HaveOtherValue words
+IsWordsCause words Refused = ¬ HaveOtherValue words
+
 -- The words are refused: they are those of no command.
 abbrev pub AreRefused : List (List ℕ) → Status → Type 0
-AreRefused words status = HaveNoCommand words × (status ≡ Words Refused)
+AreRefused words status = HaveNoCommand words × ((cause : WordsCause) × IsWordsCause words cause × (status ≡ Words cause))

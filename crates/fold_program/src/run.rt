@@ -5,18 +5,19 @@ ghost use Rattle.fold_program.specs.Status.{IsAnswer, IsFailure, IsRefusal, of_r
 ghost use Rattle.fold_program.specs.Steps.{Follows};
 ghost use Rattle.fold_program.specs.Words.{texts, HaveNoCommand};
 ghost use Rattle.fold_program.specs.Notes.{GainsFront, note_line};
-ghost use Rattle.fold_program.specs.Outcome.{Does, IsOutcome, AreInput, Ends, Breaks, HaveOutcome, HaveOneOutcome};
+ghost use Rattle.fold_program.specs.Outcome.{IsOutcome, AreInput, Ends, Breaks, HaveOutcome, HaveOneOutcome};
 ghost use Rattle.fold_program.specs.Taken.{MayTake, TakesAll};
 
 use crate::notes::note;
 use crate::output::Output;
-use crate::show::show;
+use crate::show::{show_cp, show_fold};
 use crate::status::Status;
-use crate::words::{Command, read_words};
-use cp_lines::one_reading;
+use crate::words::{Command, Format, read_words};
 use fold_base::{
-    CalmSink, CalmSource, List, MOST_BYTES, ReadFault, Sink, Source, read_pieces, write_all_bytes,
+    CalmSink, CalmSource, List, MOST_BYTES, PieceTaker, ReadFault, Sink, Source, read_pieces,
+    write_all_bytes,
 };
+use json_read::JsonReader;
 use std::alloc::Global;
 
 /// Does what the words say with the bytes of the source.
@@ -95,7 +96,8 @@ pub fn one_outcome()
     ensures some { (words : List (List ℕ)) (bytes : List ℕ) → HaveOutcome words bytes }
     ensures one { (words : List (List ℕ)) (bytes : List ℕ) → HaveOneOutcome words bytes }
 {
-    one_reading();
+    cp_lines::one_reading();
+    json_read::one_reading();
 }
 
 /// All but the notes.
@@ -146,15 +148,27 @@ fn prepare<S: Source>(alloc: Global, words: &[String], source: &mut S) -> Result
     ensures end { OnOk result (IsSpent (S.left source.new)) }
     ensures end_err { IfErr result (λ status. TakesAll status → IsSpent (S.left source.new)) }
 {
-    let command = read_words(words)?;
-    let bytes = read_all(alloc, source)?;
-    apply(alloc, command, bytes.as_slice())
+    let Command::Show(format) = read_words(words)?;
+    match format {
+        Format::Fold => {
+            let reader = read_whole(source, JsonReader::new(alloc))?;
+            show_fold(alloc, reader)
+        }
+        Format::Cp => {
+            let bytes = read_whole(source, List::new(alloc))?;
+            show_cp(alloc, bytes.as_slice())
+        }
+    }
 }
 
-/// All the bytes that the source has left.
-fn read_all<S: Source>(alloc: Global, source: &mut S) -> Result<List<u8>, ReadFault>
-    ensures all { IfOk result (λ text. IfSome (S.left source.old) (λ bytes. text ≡ bytes)) }
-    ensures within { IfOk result (λ text. length text ≤ MOST_BYTES) }
+/// The taker, once it has taken all the bytes that the source has left.
+fn read_whole<S: Source, P: PieceTaker + Drop>(source: &mut S, taker: P) -> Result<P, ReadFault>
+    requires nothing { P.has_taken taker [] }
+    requires none { P.count taker ≡ 0 }
+    ensures all { IfOk result (λ taker. IfSome (S.left source.old) (λ bytes.
+        P.has_taken taker bytes × (length bytes ≤ MOST_BYTES))) }
+    ensures some { IfOk result (λ taker.
+        (text : List ℕ) × P.has_taken taker text × (length text ≤ MOST_BYTES)) }
     ensures too_long { result ≡ Err ReadFault.TooLong →
         IfSome (S.left source.old) (λ bytes. MOST_BYTES < length bytes) }
     ensures failed { result ≡ Err ReadFault.Failed →
@@ -164,16 +178,7 @@ fn read_all<S: Source>(alloc: Global, source: &mut S) -> Result<List<u8>, ReadFa
         × IfErr result (λ fault. MayTake (of_read fault) (length bytes)) }
     ensures end { OnOk result (IsSpent (S.left source.new)) }
 {
-    let mut text = List::new(alloc);
-    read_pieces(source, &mut text)?;
-    Ok(text)
-}
-
-fn apply(alloc: Global, command: Command, bytes: &[u8]) -> Result<Output, Status>
-    requires { length bytes.now ≤ MOST_BYTES }
-    ensures { Follows (Does command bytes.now) result }
-{
-    match command {
-        Command::Show(format) => show(alloc, format, bytes),
-    }
+    let mut taker = taker;
+    read_pieces(source, &mut taker)?;
+    Ok(taker)
 }

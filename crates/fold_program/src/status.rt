@@ -3,6 +3,7 @@ ghost use Rattle.std.specs.Prelude.{◌≡◌};
 
 use cp_lines::{CpFault, CpReadFault};
 use fold_base::ReadFault;
+use json_read::{JsonFault, JsonReadFault};
 use std::alloc::AllocError;
 use std::fmt;
 
@@ -24,6 +25,7 @@ pub enum Status {
 /// Where the input stops to be of its format.
 #[derive(Clone, Copy, Debug, PartialEq, Eq)]
 pub enum TextFault {
+    Json(JsonFault),
     Cp(CpFault),
 }
 
@@ -31,6 +33,8 @@ pub enum TextFault {
 pub enum WordsCause {
     /// They are the words of no command.
     Refused,
+    /// An option has a value that it doesn't take.
+    Value,
 }
 
 #[derive(Clone, Copy, Debug, PartialEq, Eq)]
@@ -78,6 +82,19 @@ impl From<ReadFault> for Status {
             ReadFault::Failed => Status::Read,
             ReadFault::TooLong => Status::Limit(Limit::TooLong),
             ReadFault::Memory(_) => Status::Memory,
+        }
+    }
+}
+
+impl From<JsonReadFault> for Status {
+    ghost use Rattle.fold_program.specs.Status.{of_json};
+
+    ghost from_gives = { λ fault status. status ≡ of_json fault };
+
+    fn from(fault: JsonReadFault) -> Status {
+        match fault {
+            JsonReadFault::Text(fault) => Status::Text(TextFault::Json(fault)),
+            JsonReadFault::Memory(_) => Status::Memory,
         }
     }
 }
@@ -132,6 +149,7 @@ impl fmt::Display for TextFault {
 
     fn fmt<W: fmt::Write>(&self, f: &mut fmt::Formatter<W>) -> fmt::Result {
         match self {
+            TextFault::Json(fault) => write!(f, "{fault}"),
             TextFault::Cp(fault) => write!(f, "{fault}"),
         }
     }
@@ -146,6 +164,7 @@ impl fmt::Display for WordsCause {
     fn fmt<W: fmt::Write>(&self, f: &mut fmt::Formatter<W>) -> fmt::Result {
         f.write_str(match self {
             WordsCause::Refused => "words refused",
+            WordsCause::Value => "words value",
         })
     }
 }

@@ -2,11 +2,14 @@ use crate::run::{run, run_calm};
 use crate::status::{Limit, Status, TextFault, WordsCause};
 use cp_lines::{CpCause, CpFault};
 use fold_base::{CalmSink, List, MemorySink, MemorySource};
+use json_read::{JsonCause, JsonFault};
 use std::alloc::{AllocError, Global};
 use std::process::Abort;
 use std::test::Fail;
 
-const SHOW: &[&str] = &["show", "--from=cp"];
+const SHOW_CP: &[&str] = &["show", "--from=cp"];
+
+const SHOW_FOLD: &[&str] = &["show", "--from=fold"];
 
 const SHOWN: &[u8] = b"1  0 0\t1 0\r\n\r\n3 0 0 1 1";
 
@@ -38,7 +41,7 @@ struct Row<'a> {
 /// Input that is shown with no fault outside.
 fn shown<'a>(input: &'a [u8], output: &'a [u8]) -> Row<'a> {
     Row {
-        words: SHOW,
+        words: SHOW_CP,
         input,
         pieces: (4096, 4096),
         failing_takes: &[],
@@ -64,13 +67,30 @@ fn faulty<'a>(input: &'a [u8], fault: (u32, u32, CpCause), notes: &'a [u8]) -> R
     }
 }
 
+/// FOLD text that is shown with no fault outside.
+fn shown_fold<'a>(input: &'a [u8], output: &'a [u8]) -> Row<'a> {
+    Row {
+        words: SHOW_FOLD,
+        ..shown(input, output)
+    }
+}
+
+/// FOLD text that is refused at its first fault.
+fn faulty_fold<'a>(input: &'a [u8], place: u32, cause: JsonCause, notes: &'a [u8]) -> Row<'a> {
+    Row {
+        status: Status::Text(TextFault::Json(JsonFault { place, cause })),
+        notes,
+        ..shown_fold(input, b"")
+    }
+}
+
 /// Words that are refused. A source that is asked for bytes fails.
-fn refused<'a>(words: &'a [&'a str]) -> Row<'a> {
+fn refused<'a>(words: &'a [&'a str], cause: WordsCause, notes: &'a [u8]) -> Row<'a> {
     Row {
         words,
         failing_takes: &[1],
-        status: Status::Words(WordsCause::Refused),
-        notes: b"fold_program: words refused\n",
+        status: Status::Words(cause),
+        notes,
         ..shown(SHOWN, b"")
     }
 }
@@ -93,8 +113,70 @@ fn check(rt: &impl Abort, alloc: Global, row: Row<'_>) -> Result<(), AllocError>
 
 #[test]
 fn shows_cp_text(rt: HostRuntime) -> Result<(), Fail> {
-    for row in [shown(b"", b""), shown(SHOWN, PRINTED)] {
+    let rows = [
+        shown(b"", b""),
+        shown(SHOWN, PRINTED),
+        shown(b"1 0 0 1.5 0", b"1 0 0 1.5 0\n"),
+    ];
+    for row in rows {
         check(&rt, rt.alloc(), row)?;
+    }
+    Ok(())
+}
+
+#[test]
+fn shows_fold_text(rt: HostRuntime) -> Result<(), Fail> {
+    let text = b"{ \"file_spec\" : 1.1, \"vertices_coords\": [[1.50e+02, -0]] }";
+    let printed = b"{\"file_spec\":1.1,\"vertices_coords\":[[1.50e+02,-0]]}\n";
+    let rows = [
+        shown_fold(text, printed),
+        Row {
+            words: &["show"],
+            pieces: (1, 1),
+            ..shown_fold(text, printed)
+        },
+        shown_fold(b"[1]", b"[1]\n"),
+    ];
+    for row in rows {
+        check(&rt, rt.alloc(), row)?;
+    }
+    Ok(())
+}
+
+#[test]
+fn names_the_first_fault_of_fold_text(rt: HostRuntime) -> Result<(), Fail> {
+    use JsonCause::{Byte, Deep, Ended, KeyTwice};
+    let rows: [(&[u8], u32, JsonCause, &[u8]); 7] = [
+        (
+            b"{\"a\":1,\"a\":2}",
+            9,
+            KeyTwice,
+            b"fold_program: json fault at 9: key twice\n",
+        ),
+        (b"[1,]", 3, Byte, b"fold_program: json fault at 3: byte\n"),
+        (b"[1,", 3, Ended, b"fold_program: json fault at 3: ended\n"),
+        (b"", 0, Ended, b"fold_program: json fault at 0: ended\n"),
+        (b"01", 1, Byte, b"fold_program: json fault at 1: byte\n"),
+        (
+            b"\"\\uDC00\"",
+            4,
+            Byte,
+            b"fold_program: json fault at 4: byte\n",
+        ),
+        (
+            &[b'['; 65],
+            64,
+            Deep,
+            b"fold_program: json fault at 64: deep\n",
+        ),
+    ];
+    for (input, place, cause, notes) in rows {
+        check(&rt, rt.alloc(), faulty_fold(input, place, cause, notes))?;
+        let byte_by_byte = Row {
+            pieces: (1, 4096),
+            ..faulty_fold(input, place, cause, notes)
+        };
+        check(&rt, rt.alloc(), byte_by_byte)?;
     }
     Ok(())
 }
@@ -123,11 +205,6 @@ fn names_the_first_fault(rt: HostRuntime) -> Result<(), Fail> {
             (1, 10, Byte),
             b"fold_program: cp fault at line 1 column 10: byte\n",
         ),
-        faulty(
-            b"1 0 0 1.5 0",
-            (1, 8, Byte),
-            b"fold_program: cp fault at line 1 column 8: byte\n",
-        ),
     ];
     for row in rows {
         check(&rt, rt.alloc(), row)?;
@@ -137,16 +214,26 @@ fn names_the_first_fault(rt: HostRuntime) -> Result<(), Fail> {
 
 #[test]
 fn refuses_other_words(rt: HostRuntime) -> Result<(), Fail> {
-    let rows: [&[&str]; 6] = [
+    let refused_words: [&[&str]; 6] = [
         &[],
-        &["show"],
-        &["show", "--from=fold"],
+        &["fold"],
         &["--from=cp", "show"],
         &["Show", "--from=cp"],
+        &["show", "--from", "cp"],
         &["show", "--from=cp", "--from=cp"],
     ];
-    for words in rows {
-        check(&rt, rt.alloc(), refused(words))?;
+    for words in refused_words {
+        let line = b"fold_program: words refused\n";
+        check(&rt, rt.alloc(), refused(words, WordsCause::Refused, line))?;
+    }
+    let other_values: [&[&str]; 3] = [
+        &["show", "--from="],
+        &["show", "--from=opx"],
+        &["show", "--from=cp "],
+    ];
+    for words in other_values {
+        let line = b"fold_program: words value\n";
+        check(&rt, rt.alloc(), refused(words, WordsCause::Value, line))?;
     }
     Ok(())
 }
@@ -169,6 +256,14 @@ fn tells_faults_outside(rt: HostRuntime) -> Result<(), Fail> {
         ..shown(b"9 0", b"")
     };
     check(&rt, rt.alloc(), read_failed_after_a_fault)?;
+    let fold_read_failed_after_a_fault = Row {
+        pieces: (1, 4096),
+        failing_takes: &[3],
+        status: Status::Read,
+        notes: b"fold_program: read failed\n",
+        ..shown_fold(b"01", b"")
+    };
+    check(&rt, rt.alloc(), fold_read_failed_after_a_fault)?;
     let write_failed = Row {
         pieces: (4096, 4),
         failing_puts: &[2],
@@ -183,11 +278,17 @@ fn tells_faults_outside(rt: HostRuntime) -> Result<(), Fail> {
 #[test]
 fn takes_as_many_bytes_as_a_text_may_have(rt: HostRuntime) -> Result<(), Fail> {
     let alloc = rt.alloc();
-    let words = strings(alloc, SHOW)?;
-    for (len, status) in [
-        (16_777_216, Status::Done),
-        (16_777_217, Status::Limit(Limit::TooLong)),
+    let ended = TextFault::Json(JsonFault {
+        place: 16_777_216,
+        cause: JsonCause::Ended,
+    });
+    for (words, len, status) in [
+        (SHOW_CP, 16_777_216, Status::Done),
+        (SHOW_CP, 16_777_217, Status::Limit(Limit::TooLong)),
+        (SHOW_FOLD, 16_777_216, Status::Text(ended)),
+        (SHOW_FOLD, 16_777_217, Status::Limit(Limit::TooLong)),
     ] {
+        let words = strings(alloc, words)?;
         let blanks = List::from_vec(vec![in alloc; b' '; len]?);
         let mut source = MemorySource::new(blanks, 4096, List::new(alloc));
         let mut sink = MemorySink::new(alloc, 1, List::new(alloc), 1)?;
@@ -202,7 +303,7 @@ fn takes_as_many_bytes_as_a_text_may_have(rt: HostRuntime) -> Result<(), Fail> {
 fn ignores_faults_of_notes(rt: HostRuntime) -> Result<(), Fail> {
     let alloc = rt.alloc();
     let rows = [
-        refused(&["fly"]),
+        refused(&["fly"], WordsCause::Refused, b""),
         faulty(b"2 0 0 1\n", (1, 8, CpCause::Byte), b""),
     ];
     for row in rows {
