@@ -68,11 +68,7 @@ fn order_of(order: Option<Ordering>) -> i128 {
 }
 
 fn code_of(order: Ordering) -> i128 {
-    match order {
-        Ordering::Less => 2,
-        Ordering::Equal => 3,
-        Ordering::Greater => 4,
-    }
+    3 + i128::from(order.is_gt()) - i128::from(order.is_lt())
 }
 
 /// A product of 256 bits, the high half first.

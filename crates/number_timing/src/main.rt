@@ -104,11 +104,7 @@ where
 }
 
 fn code_of(order: Ordering) -> i128 {
-    match order {
-        Ordering::Less => 2,
-        Ordering::Equal => 3,
-        Ordering::Greater => 4,
-    }
+    3 + i128::from(order.is_gt()) - i128::from(order.is_lt())
 }
 
 /// The next number of a linear congruence.
