@@ -1,7 +1,7 @@
 pub mod Causes
 pub mod Feeds
 pub mod Kept
-pub mod KeySets
+pub mod KeyPlaces
 pub mod Opened
 pub mod Readings
 pub mod Scalars

@@ -1,6 +1,8 @@
 pub mod Causes
 pub mod FaultText
+pub mod Fnv
 pub mod Frames
+pub mod KeyedList
 pub mod Keys
 pub mod Reader
 pub mod Reads

@@ -1,10 +1,10 @@
 ghost use Rattle.std.specs.Prelude.{◌≡◌, [], ◌∷◌, ◌++◌, not, OnOk, if◌then◌else◌};
 ghost use Rattle.json_machine.specs.Machine.{has_key, pair};
 
+use crate::members::KeyedMembers;
 use fold_base::{List, Text};
 use json_tree::{Json, Member};
 use std::alloc::{AllocError, Global};
-use std::collections::BTreeSet;
 use std::marker::Model;
 use std::mem;
 
@@ -18,10 +18,8 @@ pub enum Frame {
 /// The members of an object that are done, and the key in hand: empty where none is.
 #[derive(Drop)]
 pub struct OpenObject {
-    members: List<Member>,
+    members: KeyedMembers,
     key: Text,
-    /// Copies of the members' keys, by which a key is found without a look at each member.
-    keys: BTreeSet<String>,
 }
 
 impl Model for OpenObject {
@@ -34,11 +32,7 @@ impl Model for OpenObject {
 
     ghost coded = { coded× (coded_list member.the_row.coded) (coded_list coded_ℕ) };
 
-    ghost use Rattle.json_read.specs.Keys.{members_and_key, HasTheirKeys};
-
-    ghost view = { members_and_key };
-
-    ghost invariant = { HasTheirKeys };
+    ghost view = { λ object. (object.members, object.key) };
 }
 
 impl OpenObject {
@@ -46,9 +40,8 @@ impl OpenObject {
         ensures { result ≡ ([], []) }
     {
         OpenObject {
-            members: List::new(alloc),
+            members: KeyedMembers::new(alloc),
             key: Text::from_string(String::new(alloc)),
-            keys: BTreeSet::new(alloc),
         }
     }
 
@@ -57,7 +50,7 @@ impl OpenObject {
         ensures test { result ≡ not (has_key key self.old.0) }
         ensures taken { self.new ≡ (if result then (self.old.0, key) else self.old) }
     {
-        if self.keys.contains(key.as_str()) {
+        if self.members.has_key(key.as_str()) {
             return false;
         }
         self.key = key;
@@ -68,20 +61,13 @@ impl OpenObject {
     pub fn put(&mut self, alloc: Global, value: Json) -> Result<(), AllocError>
         ensures { OnOk result (self.new ≡ (self.old.0 ++ pair self.old.1 value ∷ [], [])) }
     {
-        let copy = String::from_str(alloc, self.key.as_str())?;
         let key = mem::replace(&mut self.key, Text::from_string(String::new(alloc)));
-        self.members.push(Member { key, value })?;
-        if let Err(refused) = self.keys.insert(copy) {
-            // The set has again exactly the members' keys.
-            self.members.pop();
-            return Err(refused.into());
-        }
-        Ok(())
+        self.members.push(alloc, Member { key, value })
     }
 
     pub fn into_members(self) -> List<Member>
         ensures { result ≡ self.0 }
     {
-        self.members
+        self.members.into_list()
     }
 }

@@ -3,10 +3,13 @@
 
 mod character;
 mod fault;
+mod fnv;
 mod frame;
 mod key;
+mod key_index;
 mod laws;
 mod machine;
+mod members;
 mod phase;
 mod reader;
 mod run;
