@@ -1,4 +1,4 @@
-ghost use Rattle.std.specs.Prelude.{◌≡◌, ◌⊎◌, ◌++◌, [], ◌∷◌, ℕ, List, Result, Ok, codes, replicate};
+ghost use Rattle.std.specs.Prelude.{◌≡◌, ◌≢◌, ◌⊎◌, ◌++◌, [], ◌∷◌, ℕ, List, Result, Ok, codes, replicate};
 ghost use Rattle.json_tree.specs.Printed.{printed};
 ghost use Rattle.json_tree.specs.Spells.{Spells};
 ghost use Rattle.json_tree.specs.Tree.{HasTexts, IsProper};
@@ -9,15 +9,17 @@ ghost use Rattle.json_read.specs.declared.fault.JsonCause.TheVariants.{Byte, End
 ghost use Rattle.json_read.specs.declared.fault.JsonFault.{JsonFault};
 ghost use Rattle.json_read.specs.declared.fault.JsonReadFault.{JsonReadFault};
 
-/// A text spells one tree or has one first fault, and not both.
+/// A text spells one tree or has one first fault, and not both. A fault at a byte is that of each longer text.
 pub fn one_reading()
     ensures tree { (text : List ℕ) (a b : Json) → Spells text a → Spells text b → a ≡ b }
     ensures fault { (text : List ℕ) (f g : JsonFault) → NamesFirstFault text f → NamesFirstFault text g → f ≡ g }
     ensures either { (text : List ℕ) (tree : Json) (fault : JsonFault) → Spells text tree → NamesFirstFault text fault → ⊥ }
+    ensures stays { (text more : List ℕ) (fault : JsonFault) → NamesFirstFault text fault → fault.cause ≢ Ended → NamesFirstFault (text ++ more) fault }
     ensures some { (text : List ℕ) → ((tree : Json) × Spells text tree) ⊎ ((fault : JsonFault) × NamesFirstFault text fault) }
 {}
 
-/// What may be answered at the end of the printed form of a proper tree is that tree, or want of memory.
+/// What may be answered at the end of the printed form of a proper tree is that tree, or want of memory. A reader takes
+/// at most [`fold_base::MOST_BYTES`] bytes, so this speaks of trees whose printed form is no longer.
 pub fn reads_back()
     ensures { (tree : Json) (answer : Result Json JsonReadFault) → HasTexts tree → IsProper tree
         → FinishAnswers (printed tree) answer → (answer ≡ Ok tree) ⊎ LacksMemory answer }

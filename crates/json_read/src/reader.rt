@@ -1,4 +1,5 @@
 ghost use Rattle.std.specs.Prelude.{◌≡◌, ◌≢◌, ◌≤◌, ◌+◌, ◌⊎◌, ℕ, List, [], ◌++◌, length, Ok, Err, IfOk, IsOk, IsErr, OnOk, OnErr};
+ghost use Rattle.first_fault.specs.FirstFault.{Begins};
 ghost use Rattle.json_tree.specs.Spells.{Spells};
 ghost use Rattle.json_tree.specs.Tree.{IsProper};
 ghost use Rattle.json_tree.specs.declared.tree.Json.{Json};
@@ -119,6 +120,7 @@ impl PieceTaker for JsonReader {
     fn take_piece(&mut self, piece: &[u8]) -> Result<(), AllocError>
         requires { fed self.old + length piece.now ≤ MOST_BYTES }
         ensures count { OnOk result (fed self.new ≡ fed self.old + length piece.now) }
+        ensures fed { fed self.new ≡ fed self.old + length piece.now }
         ensures text { OnOk result ((text : List ℕ) → HasRead self.old text → HasRead self.new (text ++ piece.now)) }
 
         // A fault of the text so far is kept, and want of memory is answered again.
@@ -138,7 +140,14 @@ impl PieceTaker for JsonReader {
 
 /// What a reader that has read a text knows of it.
 pub fn reader_laws()
+    ensures counted { (reader : JsonReader) (text : List ℕ) → HasRead reader text → fed reader ≡ length text }
+    ensures unspoiled { (reader : JsonReader) (text : List ℕ) → HasRead reader text → ¬ IsSpoiled reader }
+
+    // It has found a fault exactly where no accepted text begins so, and that is the text's first.
     ensures kept { (reader : JsonReader) (text : List ℕ) (fault : JsonFault) → HasRead reader text → NamesFirstFault text fault
         → fault.cause ≢ JsonCause.Ended → HasFault reader fault }
-    ensures unspoiled { (reader : JsonReader) (text : List ℕ) → HasRead reader text → ¬ IsSpoiled reader }
+    ensures found { (reader : JsonReader) (text : List ℕ) (fault : JsonFault) → HasRead reader text → HasFault reader fault
+        → NamesFirstFault text fault × (fault.cause ≢ JsonCause.Ended) }
+    ensures going { (reader : JsonReader) (text : List ℕ) → HasRead reader text → ((fault : JsonFault) → ¬ HasFault reader fault)
+        → Begins Spells text }
 {}
