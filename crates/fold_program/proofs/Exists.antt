@@ -104,9 +104,9 @@ words_go words =
       | inr alone ↦ elim (from_some words) [
         | inl p ↦ elim (names_some p.0) [
           | inl q ↦ inr (Show q.0, inl (subst (λ v. AreShowFrom v words) q.1 p.1))
-          | inr none ↦ inl (Words Value, (no_command words alone (λ format h. none format (same_value words p.0 (name_of format) p.1 h)), (Value, (p.0, p.1, none), refl)))
+          | inr none ↦ inl (Words Value, (no_command words alone (λ format h. none format (same_value words p.0 (name_of format) p.1 h)), inl ((p.0, p.1, none), refl)))
         ]
-        | inr none ↦ inl (Words Refused, (no_command words alone (λ format h. none (name_of format) h), (Refused, (λ h. none h.0 h.1), refl)))
+        | inr none ↦ inl (Words Refused, (no_command words alone (λ format h. none (name_of format) h), inr ((λ h. none h.0 h.1), refl)))
       ]
     ]
 

@@ -6,7 +6,7 @@ use Rattle.cp_lines.specs.Reads as cp
 use Rattle.json_tree.specs.Spells.{Spells}
 use Rattle.json_read.specs.Causes as json
 use Rattle.fold_program.specs.Steps.{Outcome, Then, Answers}
-use Rattle.fold_program.specs.Words.{name_of, IsPlain, IsWordsCause, AreRefused}
+use Rattle.fold_program.specs.Words.{name_of, IsPlain, AreRefused}
 use Rattle.fold_program.specs.Outcome.{AreTooMany, AreWithin, HasCpFault, HasJsonFault, Does, HaveOneOutcome}
 use Rattle.fold_program.specs.declared.status.Status.{Status}
 use Rattle.fold_program.specs.declared.status.Status.TheVariants.{Text, Words}
@@ -15,8 +15,6 @@ use Rattle.fold_program.specs.declared.words.Command.{Command}
 use Rattle.fold_program.specs.declared.words.Command.TheVariants.{Show}
 use Rattle.fold_program.specs.declared.words.Format.{Format}
 use Rattle.fold_program.specs.declared.words.Format.TheVariants.{Fold, Cp}
-use Rattle.fold_program.specs.declared.status.WordsCause.{WordsCause}
-use Rattle.fold_program.specs.declared.status.WordsCause.TheVariants.{Refused, Value}
 
 -- One status and one text.
 abbrev pub IsOne : Outcome → Type 0
@@ -53,15 +51,16 @@ one_plain words (Show f) (Show g) (inl p) (inr q) = absurd (let e = sym p ∙ q.
 one_plain words (Show f) (Show g) (inr p) (inl q) = absurd (let e = sym p.0 ∙ q in cc)
 one_plain words (Show f) (Show g) (inr p) (inr q) = ap Show (p.1 ∙ sym q.1)
 
-one_words_cause : (words : List (List ℕ)) (c d : WordsCause) → IsWordsCause words c → IsWordsCause words d → c ≡ d
-one_words_cause words Refused Refused p q = refl
-one_words_cause words Refused Value p q = absurd (p q)
-one_words_cause words Value Refused p q = absurd (q p)
-one_words_cause words Value Value p q = refl
+one_refused : (words : List (List ℕ)) (s s' : Status) → AreRefused words s → AreRefused words s' → s ≡ s'
+one_refused words s s' p q =
+    elim p.1 [
+      | inl v ↦ elim q.1 [ inl w ↦ v.1 ∙ sym w.1 | inr w ↦ absurd (w.0 v.0) ]
+      | inr v ↦ elim q.1 [ inl w ↦ absurd (v.0 w.0) | inr w ↦ v.1 ∙ sym w.1 ]
+    ]
 
 words_step : (words : List (List ℕ)) → IsStep (AreRefused words) (IsPlain words)
 words_step words = record {
-  one_refusal = λ s s' p q. p.1.2 ∙ ap Words (one_words_cause words p.1.0 q.1.0 p.1.1 q.1.1) ∙ sym q.1.2;
+  one_refusal = one_refused words;
   one_value = one_plain words;
   apart = λ s x p q. p.0 x q;
 }

@@ -27,7 +27,7 @@ use Rattle.fold_program.specs.declared.words.Format.TheVariants.{Fold, Cp}
 abbrev pub AreTooMany : List ℕ → Status → Type 0
 AreTooMany bytes status = (MOST_BYTES < length bytes) × (status ≡ Limit TooLong)
 
--- There are as many bytes as a text may have, and these are they.
+-- There are no more bytes than a text may have, and these are they.
 abbrev pub AreWithin : List ℕ → List ℕ → Type 0
 AreWithin bytes given = (length bytes ≤ MOST_BYTES) × (given ≡ bytes)
 

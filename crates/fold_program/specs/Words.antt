@@ -7,7 +7,6 @@ use Rattle.fold_program.specs.declared.words.Format.{Format}
 use Rattle.fold_program.specs.declared.words.Format.TheVariants.{Fold, Cp}
 use Rattle.fold_program.specs.declared.status.Status.{Status}
 use Rattle.fold_program.specs.declared.status.Status.TheVariants.{Words}
-use Rattle.fold_program.specs.declared.status.WordsCause.{WordsCause}
 use Rattle.fold_program.specs.declared.status.WordsCause.TheVariants.{Refused, Value}
 
 -- The words as texts.
@@ -35,11 +34,6 @@ HaveNoCommand words = (command : Command) → ¬ (IsPlain words command)
 abbrev pub HaveOtherValue : List (List ℕ) → Type 0
 HaveOtherValue words = (value : List ℕ) × AreShowFrom value words × ((format : Format) → ¬ (value ≡ name_of format))
 
--- Why words of no command are refused.
-abbrev pub IsWordsCause : List (List ℕ) → WordsCause → Type 0
-IsWordsCause words Value = HaveOtherValue words
-IsWordsCause words Refused = ¬ HaveOtherValue words
-
--- The words are refused: they are those of no command.
+-- The words are refused: they are those of no command. It is told apart whether a value alone is wrong.
 abbrev pub AreRefused : List (List ℕ) → Status → Type 0
-AreRefused words status = HaveNoCommand words × ((cause : WordsCause) × IsWordsCause words cause × (status ≡ Words cause))
+AreRefused words status = HaveNoCommand words × ((HaveOtherValue words × (status ≡ Words Value)) ⊎ ((¬ HaveOtherValue words) × (status ≡ Words Refused)))

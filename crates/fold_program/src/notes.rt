@@ -1,5 +1,6 @@
 // What is said of a refusal or a failure.
-ghost use Rattle.std.specs.Prelude.{◌≡◌};
+ghost use Rattle.std.specs.Prelude.{◌≡◌, ◌⊎◌};
+ghost use Rattle.fold_base.specs.Outside.{Rose, Gains};
 ghost use Rattle.fold_program.specs.Status.{IsAnswer};
 ghost use Rattle.fold_program.specs.Notes.{GainsFront, note_line};
 
@@ -12,6 +13,10 @@ use std::alloc::Global;
 pub fn note<E: Sink>(alloc: Global, status: &Status, notes: &mut E)
     ensures quiet { IsAnswer status.now → notes.new ≡ notes.old }
     ensures line { GainsFront (E.written notes.old) (E.written notes.new) (note_line status.now) }
+
+    // Where the notes don't fail, the line is put whole, or none of it.
+    ensures whole { ¬ (Rose (E.faults notes.old) (E.faults notes.new)) → (notes.new ≡ notes.old)
+        ⊎ Gains (E.written notes.old) (E.written notes.new) (note_line status.now) }
 {
     match status {
         Status::Done => {}
@@ -26,7 +31,9 @@ pub fn note<E: Sink>(alloc: Global, status: &Status, notes: &mut E)
 }
 
 fn put_line<E: Sink>(notes: &mut E, line: &str)
-    ensures { GainsFront (E.written notes.old) (E.written notes.new) line.now }
+    ensures front { GainsFront (E.written notes.old) (E.written notes.new) line.now }
+    ensures whole { ¬ (Rose (E.faults notes.old) (E.faults notes.new)) →
+        Gains (E.written notes.old) (E.written notes.new) line.now }
 {
     let _ = write_all_bytes(notes, line.as_bytes());
 }

@@ -1,12 +1,12 @@
 // The top call.
 ghost use Rattle.std.specs.Prelude.{◌≡◌, ◌≢◌, ◌⊎◌, ◌≤◌, ◌<◌, [], List, ℕ, Ok, Err, length, IfOk, IfErr, IfSome, OnOk};
-ghost use Rattle.fold_base.specs.Outside.{Rose, Gives, IsSpent};
+ghost use Rattle.fold_base.specs.Outside.{Rose, Gives, Gains, IsSpent};
 ghost use Rattle.fold_program.specs.Status.{IsAnswer, IsFailure, IsRefusal, of_read};
 ghost use Rattle.fold_program.specs.Steps.{Follows};
 ghost use Rattle.fold_program.specs.Words.{texts, HaveNoCommand};
 ghost use Rattle.fold_program.specs.Notes.{GainsFront, note_line};
 ghost use Rattle.fold_program.specs.Outcome.{IsOutcome, AreInput, Ends, Breaks, HaveOutcome, HaveOneOutcome};
-ghost use Rattle.fold_program.specs.Taken.{MayTake, TakesAll};
+ghost use Rattle.fold_program.specs.Taken.{Takes, TakesAll};
 
 use crate::notes::note;
 use crate::output::Output;
@@ -55,12 +55,15 @@ pub fn run<S: Source, T: Sink, E: Sink>(
     // No byte is taken after the first that is past the limit. What is read as a text is all that
     // was left.
     ensures taken { (bytes : List ℕ) × Gives (S.left source.old) (S.left source.new) bytes
-        × MayTake result (length bytes) }
+        × Takes result (length bytes) }
     ensures end { TakesAll result → IsSpent (S.left source.new) }
 
-    // Notes get at most the line on the status, and none on an answer.
+    // Notes get at most the line on the status, and none on an answer. Where they don't fail, they
+    // get it whole, or none of it.
     ensures quiet { IsAnswer result → notes.new ≡ notes.old }
     ensures noted { GainsFront (E.written notes.old) (E.written notes.new) (note_line result) }
+    ensures noted_whole { ¬ (Rose (E.faults notes.old) (E.faults notes.new)) → (notes.new ≡ notes.old)
+        ⊎ Gains (E.written notes.old) (E.written notes.new) (note_line result) }
 
     // Where nothing failed outside, the status is the outcome, or memory is wanting.
     ensures complete { ¬ (Rose (S.faults source.old) (S.faults source.new)) →
@@ -120,7 +123,7 @@ fn perform<S: Source, T: Sink>(
     ensures unread { HaveNoCommand (texts words.now) → source.new ≡ source.old }
     ensures no_read { HaveNoCommand (texts words.now) → result ≢ Status.Read }
     ensures taken { (bytes : List ℕ) × Gives (S.left source.old) (S.left source.new) bytes
-        × MayTake result (length bytes) }
+        × Takes result (length bytes) }
     ensures end { TakesAll result → IsSpent (S.left source.new) }
 {
     match prepare(alloc, words, source) {
@@ -144,7 +147,7 @@ fn prepare<S: Source>(alloc: Global, words: &[String], source: &mut S) -> Result
     ensures no_read { HaveNoCommand (texts words.now) → result ≢ Err Status.Read }
     ensures taken { (bytes : List ℕ) × Gives (S.left source.old) (S.left source.new) bytes
         × OnOk result (length bytes ≤ MOST_BYTES)
-        × IfErr result (λ status. MayTake status (length bytes)) }
+        × IfErr result (λ status. Takes status (length bytes)) }
     ensures end { OnOk result (IsSpent (S.left source.new)) }
     ensures end_err { IfErr result (λ status. TakesAll status → IsSpent (S.left source.new)) }
 {
@@ -175,7 +178,7 @@ fn read_whole<S: Source, P: PieceTaker + Drop>(source: &mut S, taker: P) -> Resu
         Rose (S.faults source.old) (S.faults source.new) }
     ensures taken { (bytes : List ℕ) × Gives (S.left source.old) (S.left source.new) bytes
         × OnOk result (length bytes ≤ MOST_BYTES)
-        × IfErr result (λ fault. MayTake (of_read fault) (length bytes)) }
+        × IfErr result (λ fault. Takes (of_read fault) (length bytes)) }
     ensures end { OnOk result (IsSpent (S.left source.new)) }
 {
     let mut taker = taker;
