@@ -26,10 +26,6 @@ stands_last : (before : List Member) (last : Member) (key : List ℕ) → stands
 stands_last [] last key = refl
 stands_last (m ∷ before) last key = stands_last before last key
 
-stands_past : (before : List Member) (key : List ℕ) → stands_at before (length before) key ≡ false
-stands_past [] key = refl
-stands_past (m ∷ before) key = stands_past before key
-
 same_elsewhere : (before : List Member) (last : Member) (key : List ℕ) (place : Option ℕ) → bytes_eq last.key key ≡ false
     → option_map_or (λ p. stands_at (before ++ last ∷ []) p key) place false ≡ option_map_or (λ p. stands_at before p key) place false
 same_elsewhere before last key None other_key = refl

@@ -39,6 +39,15 @@ fn reads_texts_and_names_first_faults(rt: HostRuntime) -> Result<(), Fail> {
             "{\"a\":{\"a\":1},\"\\u0061\" : 2}",
             "json fault at 20: key twice",
         ),
+        // Two keys of one hash.
+        (
+            "{\"8yn0iYCKYHlIj4-BwPqk\":1,\"GReLUrM4wMqfg9yzV3KQ\":2}",
+            "{\"8yn0iYCKYHlIj4-BwPqk\":1,\"GReLUrM4wMqfg9yzV3KQ\":2}",
+        ),
+        (
+            "{\"8yn0iYCKYHlIj4-BwPqk\":1,\"GReLUrM4wMqfg9yzV3KQ\":2,\"GReLUrM4wMqfg9yzV3KQ\":3}",
+            "json fault at 72: key twice",
+        ),
         ("{\"\\u12\"", "json fault at 6: byte"),
         ("[1,]", "json fault at 3: byte"),
         ("[true}", "json fault at 5: byte"),
