@@ -22,7 +22,7 @@ use Rattle.json_tree.proofs.Trees.{every-Null, every-Truth, every-Number, every-
 scalar_in : (c : ℕ) → (c < 55296) ⊎ ((57344 ≤ c) × (c < 1114112)) → IsScalar c
 scalar_in c h = grind (arith, nat_tests)
 
-escaped_low : (letter c : ℕ) → escaped_by letter ≡ Some c → c < 128
+pub escaped_low : (letter c : ℕ) → escaped_by letter ≡ Some c → c < 128
 escaped_low letter c e = grind (arith, nat_tests)
 
 pair_scalar : (high low : ℕ) → IsHighSurrogate high → IsLowSurrogate low → IsScalar (65536 + (high - 55296) * 1024 + (low - 56320))

@@ -69,15 +69,18 @@ HasTexts tree = every-Json HasText (λ m. IsUtf8 m.key) tree
 abbrev pub MemberHasTexts : Member → Type 0
 MemberHasTexts m = every-Member HasText (λ m. IsUtf8 m.key) m
 
--- a list has at most so many elements, and an object at most so many members
+-- A list has at most so many elements, an object at most so many members, and the text of a number and a word at most so
+-- many bytes.
 abbrev pub HasLengthUpTo : ℕ → Json-F Json Member → Type 0
 HasLengthUpTo most (layers.List items) = length items ≤ most
 HasLengthUpTo most (layers.Object members) = length members ≤ most
+HasLengthUpTo most (layers.Number text) = length text ≤ most
+HasLengthUpTo most (layers.Word word) = length word ≤ most
 HasLengthUpTo most layer = Unit {0}
 
--- no list and no object in the tree is longer
+-- no list, object, number, word or key in the tree is longer
 abbrev pub HasLengthsUpTo : ℕ → Json → Type 0
-HasLengthsUpTo most tree = every-Json (HasLengthUpTo most) (λ m. Unit {0}) tree
+HasLengthsUpTo most tree = every-Json (HasLengthUpTo most) (λ m. length m.key ≤ most) tree
 
 abbrev pub MemberHasLengthsUpTo : ℕ → Member → Type 0
-MemberHasLengthsUpTo most m = every-Member (HasLengthUpTo most) (λ m. Unit {0}) m
+MemberHasLengthsUpTo most m = every-Member (HasLengthUpTo most) (λ m. length m.key ≤ most) m

@@ -11,8 +11,8 @@ pub fn number_tests()
     ensures begins { (text : List ℕ) → IsTrue (begins_number text) ↔ BeginsNumber text }
 {}
 
-/// The tree that a text spells is proper, its texts are numbers and UTF-8, and none of its lists and objects has more
-/// elements or members than the text has bytes.
+/// The tree that a text spells is proper, its texts are numbers and UTF-8, and no list, object, number, word or key of it
+/// is longer than the text: it has no more elements, members or bytes than the text has bytes.
 pub fn spelled_trees_are_proper()
     ensures proper { (text : List ℕ) (tree : Json) → Spells text tree → IsProper tree }
     ensures texts { (text : List ℕ) (tree : Json) → Spells text tree → HasTexts tree }
