@@ -1,7 +1,7 @@
 ghost use Rattle.std.specs.Prelude.{◌≡◌, ◌≢◌, ◌≤◌, ◌+◌, ◌⊎◌, ℕ, List, [], ◌++◌, length, Ok, Err, IfOk, IsOk, IsErr, OnOk, OnErr};
 ghost use Rattle.first_fault.specs.FirstFault.{Begins};
 ghost use Rattle.json_tree.specs.Spells.{Spells};
-ghost use Rattle.json_tree.specs.Tree.{IsProper};
+ghost use Rattle.json_tree.specs.Tree.{HasLengthsUpTo, IsProper};
 ghost use Rattle.json_tree.specs.declared.tree.Json.{Json};
 ghost use Rattle.json_read.specs.Causes.{NamesFirstFault};
 ghost use Rattle.json_read.specs.Reads.{FeedAnswers, FinishAnswers, LacksMemory, UnlessMemory};
@@ -91,6 +91,7 @@ impl JsonReader {
     pub fn finish(self) -> Result<Json, JsonReadFault>
         ensures answer { (text : List ℕ) → HasRead self text → FinishAnswers text result }
         ensures proper { (text : List ℕ) → HasRead self text → IfOk result IsProper }
+        ensures lengths { (text : List ℕ) → HasRead self text → IfOk result (HasLengthsUpTo (length text)) }
         ensures accepted { (text : List ℕ) (tree : Json) → HasRead self text → Spells text tree → (result ≡ Ok tree) ⊎ LacksMemory result }
         ensures refused { (text : List ℕ) (fault : JsonFault) → HasRead self text → NamesFirstFault text fault
             → (result ≡ Err (JsonReadFault.Text fault)) ⊎ LacksMemory result }

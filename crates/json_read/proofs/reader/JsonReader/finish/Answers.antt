@@ -4,6 +4,7 @@ use Rattle.json_read.specs.Reads.{FinishAnswers}
 use Rattle.json_read.specs.Views.{state_of}
 use Rattle.json_read.specs.declared.fault.JsonCause.TheVariants.{Ended}
 use Rattle.json_read.specs.declared.fault.JsonReadFault.TheVariants.{Text}
+use Rattle.json_tree.proofs.SpelledLengths.{spelled_lengths}
 use Rattle.json_tree.proofs.SpelledTrees.{spelled}
 use Rattle.json_read.proofs.Feeds.{tree_answers, end_answers}
 use Rattle.json_read.proofs.Readings.{accepted_finish, refused_finish}
@@ -26,6 +27,9 @@ returns-in-Some-clause-answer c = done c
 
 pub returns-in-Some-clause-proper : goal.returns-in-Some-clause-proper
 returns-in-Some-clause-proper c = λ text r. (spelled text c.in-Some.tree (done c text r)).0
+
+pub returns-in-Some-clause-lengths : goal.returns-in-Some-clause-lengths
+returns-in-Some-clause-lengths c = λ text r. spelled_lengths text c.in-Some.tree (done c text r)
 
 pub returns-in-Some-clause-accepted : goal.returns-in-Some-clause-accepted
 returns-in-Some-clause-accepted c = λ text tree r s. accepted_finish text tree (Ok c.in-Some.tree) s (done c text r)
