@@ -17,7 +17,7 @@ use Rattle.json_tree.specs.declared.tree.Member.{Member}
 use Rattle.json_machine.specs.Machine.{Frame, InList, InObject, Phase, ValueDue, FirstValueDue, KeyDue, FirstKeyDue, ColonDue, InWord, InKey, InNumber, InLiteral, AfterValue, State, Sign, Blank, Quote, Open, Close, OpenBrace, CloseBrace, Comma, Colon, Other, sign_of, start, in_phase, pair, emitted, rooted, with_value, closed_list, closed_object, next_due, after_value, pushed, at_other, at_value, at_first_value, literal_left, in_literal, in_number, in_word, has_key, keyed, in_key, at_key, at_first_key, at_colon, by_phase, step, ending, finish}
 use Rattle.json_tree.specs.Number.{BeginsNumber}
 use Rattle.json_tree.specs.Scan.{begins_number, is_number}
-use Rattle.json_machine.specs.Opens.{Heads, KeyHeads, ValueIsDue, KeyIsDue}
+use Rattle.json_machine.specs.Opens.{Heads, KeyHeads, ItemIsDue, MemberValueIsDue, ValueIsDue, KeyIsDue}
 use Rattle.json_machine.specs.WordScan.{WordState, WordPart, Between, Character, Escape, Unit0, Unit1, Unit2, Unit3, High, LowEscape, Low0, Low1, Low2, Low3, word_start, next_character, is_between}
 use Rattle.json_machine.proofs.Keys.{no_key_found, goes_on_new}
 use Rattle.json_tree.proofs.Numbers.{number_test, begins_test}
@@ -62,21 +62,23 @@ blanks_snoc (x ∷ t) b a p = (a.0, blanks_snoc t b a.1 p)
 
 due_snoc : (k : List Frame) (t : List ℕ) (b : ℕ) → ValueIsDue k t → IsBlank b → ValueIsDue k (t ++ b ∷ [])
 due_snoc [] t b d i = blanks_snoc t b d i
-due_snoc (InList vs ∷ k) t b d i = (d.0, d.1, d.2 ++ b ∷ [], rw d.3 (simp append_assoc), d.4, d.5, d.6, blanks_snoc d.2 b d.7 i)
-due_snoc (InObject ms x ∷ k) t b d i = (d.0, d.1, d.2, d.3, d.4, d.5 ++ b ∷ [], rw d.6 (simp append_assoc), d.7, d.8, d.9, d.10, d.11, d.12, d.13, blanks_snoc d.5 b d.14 i)
+due_snoc (InList vs ∷ k) t b d i = (d.0, d.1 ++ b ∷ [], rw d.2 (simp append_assoc), d.3, d.4, (d.5.0, d.5.1 ++ b ∷ [], rw d.5.2 (simp append_assoc), d.5.3, blanks_snoc d.5.1 b d.5.4 i))
+due_snoc (InObject ms x ∷ k) t b d i =
+    let m = d.5 in
+    (d.0, d.1 ++ b ∷ [], rw d.2 (simp append_assoc), d.3, d.4, (m.0, m.1, m.2 ++ b ∷ [], rw m.3 (simp append_assoc), m.4, m.5, (m.6.0, m.6.1 ++ b ∷ [], rw m.6.2 (simp append_assoc), m.6.3, blanks_snoc m.6.1 b m.6.4 i)))
 
 key_due_snoc : (ms : List Member) (k : List Frame) (t : List ℕ) (b : ℕ) → KeyIsDue ms k t → IsBlank b → KeyIsDue ms k (t ++ b ∷ [])
-key_due_snoc ms k t b d i = (d.0, d.1, d.2 ++ b ∷ [], rw d.3 (simp append_assoc), d.4, d.5, d.6, blanks_snoc d.2 b d.7 i)
+key_due_snoc ms k t b d i = (d.0, d.1 ++ b ∷ [], rw d.2 (simp append_assoc), d.3, d.4, (d.5.0, d.5.1 ++ b ∷ [], rw d.5.2 (simp append_assoc), d.5.3, blanks_snoc d.5.1 b d.5.4 i))
 
 -- ---- values and members, one more
 
-items_more : (n : ℕ) (heads last : List ℕ) (vs : List Json) (v : Json) → Heads n heads vs → SpellsItem n last v → SpellsItems n (heads ++ last) (vs ++ v ∷ [])
-items_more n heads last vs v (inl none) s = first_item v (subst (λ x. SpellsItem n x v) (ap (λ x. x ++ last) (sym none.0)) s) (ap (λ x. x ++ v ∷ []) none.1)
-items_more n heads last vs v (inr some) s = next_item some.0 last vs v some.2 s (ap (λ x. x ++ last) some.1) refl
+items_more : (n : ℕ) (t heads last : List ℕ) (vs : List Json) (v : Json) → t ≡ heads ++ last → Heads n heads vs → SpellsItem n last v → SpellsItems n t (vs ++ v ∷ [])
+items_more n t heads last vs v e (inl none) s = first_item v (subst (λ x. SpellsItem n x v) (sym (e ∙ ap (λ x. x ++ last) none.0)) s) (ap (λ x. x ++ v ∷ []) none.1)
+items_more n t heads last vs v e (inr some) s = next_item some.0 last vs v some.2 s (e ∙ ap (λ x. x ++ last) some.1) refl
 
-members_more : (n : ℕ) (heads last : List ℕ) (ms : List Member) (m : Member) → KeyHeads n heads ms → SpellsMember n last m → ¬ HasKey ms m.key → SpellsMembers n (heads ++ last) (ms ++ m ∷ [])
-members_more n heads last ms m (inl none) s new = first_member m (subst (λ x. SpellsMember n x m) (ap (λ x. x ++ last) (sym none.0)) s) (ap (λ x. x ++ m ∷ []) none.1)
-members_more n heads last ms m (inr some) s new = next_member some.0 last ms m some.2 s new (ap (λ x. x ++ last) some.1) refl
+members_more : (n : ℕ) (t heads last : List ℕ) (ms : List Member) (m : Member) → t ≡ heads ++ last → KeyHeads n heads ms → SpellsMember n last m → ¬ HasKey ms m.key → SpellsMembers n t (ms ++ m ∷ [])
+members_more n t heads last ms m e (inl none) s new = first_member m (subst (λ x. SpellsMember n x m) (sym (e ∙ ap (λ x. x ++ last) none.0)) s) (ap (λ x. x ++ m ∷ []) none.1)
+members_more n t heads last ms m e (inr some) s new = next_member some.0 last ms m some.2 s new (e ∙ ap (λ x. x ++ last) some.1) refl
 
 not_ended : {X : Type 0} (xs : List X) (x : X) → [] ≡ xs ++ x ∷ [] → ⊥
 not_ended [] x e = cc
@@ -100,67 +102,59 @@ no_key_heads n t (inr some) = absurd (some_members some.2 refl)
 
 -- ---- a list or an object ends or goes on
 
+-- inside of a list, with a value that is done
+item_done : (n : ℕ) (vs : List Json) (v : Json) (t value after : List ℕ) → ItemIsDue n vs t → SpellsValue n value v → AreBlanks after → SpellsItems n (t ++ value ++ after) (vs ++ v ∷ [])
+item_done n vs v t value after d s a = items_more n (t ++ value ++ after) d.0 (d.1 ++ value ++ after) vs v (rw d.2 (simp append_assoc)) d.3 (item d.1 value after d.4 s a refl)
+
 list_ends : (vs : List Json) (k : List Frame) (v : Json) (t : List ℕ) → Done (InList vs ∷ k) v t → Done k (trees.List (vs ++ v ∷ [])) (t ++ 93 ∷ [])
 list_ends vs k v t d =
     let e = d.4 in
-    let inner = e.1 ++ (e.2 ++ d.1 ++ d.2) in (
-      e.0,
-      (91 ∷ []) ++ inner ++ (93 ∷ []),
-      [],
-      rw (d.3, e.3) (simp (append_assoc, append-nil)),
-      e.4,
-      list inner (vs ++ v ∷ []) e.5 (items_more (suc (length k)) e.1 (e.2 ++ d.1 ++ d.2) vs v e.6 (item e.2 d.1 d.2 e.7 d.5 d.6 refl)) refl refl,
-      tt,
-    )
+    let inner = e.1 ++ d.1 ++ d.2 in
+    (e.0, (91 ∷ []) ++ inner ++ (93 ∷ []), [], rw (d.3, e.2) (simp (append_assoc, append-nil)), e.3, list inner (vs ++ v ∷ []) e.4 (item_done (suc (length k)) vs v e.1 d.1 d.2 e.5 d.5 d.6) refl refl, tt)
 
 list_goes_on : (vs : List Json) (k : List Frame) (v : Json) (t : List ℕ) → Done (InList vs ∷ k) v t → ValueIsDue (InList (vs ++ v ∷ []) ∷ k) (t ++ 44 ∷ [])
 list_goes_on vs k v t d =
     let e = d.4 in
-    let front = e.1 ++ (e.2 ++ d.1 ++ d.2) in
-    (e.0, front ++ (44 ∷ []), [], rw (d.3, e.3) (simp (append_assoc, append-nil)), e.4, e.5, inr (front, refl, items_more (suc (length k)) e.1 (e.2 ++ d.1 ++ d.2) vs v e.6 (item e.2 d.1 d.2 e.7 d.5 d.6 refl)), tt)
+    let heads = e.1 ++ d.1 ++ d.2 ++ (44 ∷ []) in
+    (e.0, heads, rw (d.3, e.2) (simp append_assoc), e.3, e.4, (heads, [], sym (append-nil heads), inr (e.1 ++ d.1 ++ d.2, refl, item_done (suc (length k)) vs v e.1 d.1 d.2 e.5 d.5 d.6), tt))
 
-abbrev member_text : List ℕ → List ℕ → List ℕ → List ℕ → List ℕ → List ℕ → List ℕ
-member_text blanks spelled between after value rest = blanks ++ spelled ++ between ++ (58 ∷ []) ++ (after ++ value ++ rest)
-
-object_member : (ms : List Member) (x : List ℕ) (k : List Frame) (v : Json) (t : List ℕ) (d : Done (InObject ms x ∷ k) v t) →
-    SpellsMembers (suc (length k)) (d.4.1 ++ member_text d.4.2 d.4.3 d.4.4 d.4.5 d.1 d.2) (ms ++ pair x v ∷ [])
-object_member ms x k v t d =
-    let e = d.4 in
-    members_more (suc (length k)) e.1 (member_text e.2 e.3 e.4 e.5 d.1 d.2) ms (pair x v) e.9 (member e.2 e.3 e.4 (e.5 ++ d.1 ++ d.2) e.10 e.11 e.13 (item e.5 d.1 d.2 e.14 d.5 d.6 refl) refl) e.12
+-- inside of an object, with the value of a key
+member_done : (n : ℕ) (ms : List Member) (x : List ℕ) (v : Json) (t value after : List ℕ) → MemberValueIsDue n ms x t → SpellsValue n value v → AreBlanks after → SpellsMembers n (t ++ value ++ after) (ms ++ pair x v ∷ [])
+member_done n ms x v t value after d s a =
+    let m = d.4 in
+    let c = d.6 in
+    let last = m.1 ++ d.1 ++ c.0 ++ (58 ∷ []) ++ (c.1 ++ value ++ after) in
+    let text_is : t ++ value ++ after ≡ m.0 ++ last = rw (d.3, m.2, c.2) (simp append_assoc) in
+    members_more n (t ++ value ++ after) m.0 last ms (pair x v) text_is m.3 (member m.1 d.1 c.0 (c.1 ++ value ++ after) m.4 d.5.0 c.3 (item c.1 value after c.4 s a refl) refl) d.5.1
 
 object_ends : (ms : List Member) (x : List ℕ) (k : List Frame) (v : Json) (t : List ℕ) → Done (InObject ms x ∷ k) v t → Done k (trees.Object (ms ++ pair x v ∷ [])) (t ++ 125 ∷ [])
 object_ends ms x k v t d =
     let e = d.4 in
-    let inner = e.1 ++ member_text e.2 e.3 e.4 e.5 d.1 d.2 in (
-      e.0,
-      (123 ∷ []) ++ inner ++ (125 ∷ []),
-      [],
-      rw (d.3, e.6) (simp (append_assoc, append-nil)),
-      e.7,
-      object inner (ms ++ pair x v ∷ []) e.8 (object_member ms x k v t d) refl refl,
-      tt,
-    )
+    let inner = e.1 ++ d.1 ++ d.2 in
+    (e.0, (123 ∷ []) ++ inner ++ (125 ∷ []), [], rw (d.3, e.2) (simp (append_assoc, append-nil)), e.3, object inner (ms ++ pair x v ∷ []) e.4 (member_done (suc (length k)) ms x v e.1 d.1 d.2 e.5 d.5 d.6) refl refl, tt)
 
 object_goes_on : (ms : List Member) (x : List ℕ) (k : List Frame) (v : Json) (t : List ℕ) → Done (InObject ms x ∷ k) v t → KeyIsDue (ms ++ pair x v ∷ []) k (t ++ 44 ∷ [])
 object_goes_on ms x k v t d =
     let e = d.4 in
-    let front = e.1 ++ member_text e.2 e.3 e.4 e.5 d.1 d.2 in
-    (e.0, front ++ (44 ∷ []), [], rw (d.3, e.6) (simp (append_assoc, append-nil)), e.7, e.8, inr (front, refl, object_member ms x k v t d), tt)
+    let heads = e.1 ++ d.1 ++ d.2 ++ (44 ∷ []) in
+    (e.0, heads, rw (d.3, e.2) (simp append_assoc), e.3, e.4, (heads, [], sym (append-nil heads), inr (e.1 ++ d.1 ++ d.2, refl, member_done (suc (length k)) ms x v e.1 d.1 d.2 e.5 d.5 d.6), tt))
 
 empty_list_ends : (k : List Frame) (t : List ℕ) → ValueIsDue (InList [] ∷ k) t → Done k (trees.List []) (t ++ 93 ∷ [])
 empty_list_ends k t d =
-    let none : d.1 ≡ [] = no_heads (suc (length k)) d.1 d.6 in
-    (d.0, (91 ∷ []) ++ d.2 ++ (93 ∷ []), [], rw (d.3, none) (simp (append_assoc, append-nil)), d.4, empty_list d.2 d.5 d.7 refl refl, tt)
+    let none : d.5.0 ≡ [] = no_heads (suc (length k)) d.5.0 d.5.3 in
+    (d.0, (91 ∷ []) ++ d.5.1 ++ (93 ∷ []), [], rw (d.2, d.5.2, none) (simp (append_assoc, append-nil)), d.3, empty_list d.5.1 d.4 d.5.4 refl refl, tt)
 
 empty_object_ends : (k : List Frame) (t : List ℕ) → KeyIsDue [] k t → Done k (trees.Object []) (t ++ 125 ∷ [])
 empty_object_ends k t d =
-    let none : d.1 ≡ [] = no_key_heads (suc (length k)) d.1 d.6 in
-    (d.0, (123 ∷ []) ++ d.2 ++ (125 ∷ []), [], rw (d.3, none) (simp (append_assoc, append-nil)), d.4, empty_object d.2 d.5 d.7 refl refl, tt)
+    let none : d.5.0 ≡ [] = no_key_heads (suc (length k)) d.5.0 d.5.3 in
+    (d.0, (123 ∷ []) ++ d.5.1 ++ (125 ∷ []), [], rw (d.2, d.5.2, none) (simp (append_assoc, append-nil)), d.3, empty_object d.5.1 d.4 d.5.4 refl refl, tt)
 
 -- after a key and its colon a value is due
 colon_due : (ms : List Member) (k : List Frame) (x before spelled blanks t : List ℕ) → KeyIsDue ms k before → SpellsWord spelled x → ¬ HasKey ms x → AreBlanks blanks → t ≡ before ++ spelled ++ blanks
     → ValueIsDue (InObject ms x ∷ k) (t ++ 58 ∷ [])
-colon_due ms k x before spelled blanks t d s new i e = (d.0, d.1, d.2, spelled, blanks, [], rw (e, d.3) (simp (append_assoc, append-nil)), d.4, d.5, d.6, d.7, s, new, i, tt)
+colon_due ms k x before spelled blanks t d s new i e =
+    let colon = blanks ++ 58 ∷ [] in
+    (d.0, d.1 ++ spelled ++ colon, rw (e, d.2) (simp append_assoc), d.3, d.4, (d.1, spelled, colon, refl, d.5, (s, new), (blanks, [], sym (append-nil colon), i, tt)))
 
 -- ---- words, numbers and literals that are done
 
@@ -313,9 +307,9 @@ lead_value Blank p t s after b is sp (inl stay) d e = became _ s after e (at_pha
 lead_value Blank p t s after b is sp (inr never) d e = absurd (never refl)
 lead_value Quote p t s after b is sp stay d e = became _ (in_phase s (InWord word_start)) after e (t, [], rw (quote_byte b is) (sym (append-nil (t ++ 34 ∷ []))), d, word_leads_start)
 lead_value Open p t s after b is sp stay d e = lead_pushed _ s.stack (InList []) FirstValueDue after e (λ less.
-    (s.stack, refl, (t, [], [], rw (open_byte b is) (simp append-nil), d, less, inl (refl, refl), tt)))
+    (s.stack, refl, (t, [], rw (open_byte b is) (sym (append-nil (t ++ 91 ∷ []))), d, less, ([], [], refl, inl (refl, refl), tt))))
 lead_value OpenBrace p t s after b is sp stay d e = lead_pushed _ s.stack (InObject [] []) FirstKeyDue after e (λ less.
-    (s.stack, [], refl, (t, [], [], rw (open_brace_byte b is) (simp append-nil), d, less, inl (refl, refl), tt)))
+    (s.stack, [], refl, (t, [], rw (open_brace_byte b is) (sym (append-nil (t ++ 123 ∷ []))), d, less, ([], [], refl, inl (refl, refl), tt))))
 lead_value Other p t s after b is sp stay d e = lead_other t s b after d e
 lead_value _ p t s after b is sp stay d e = cc
 
