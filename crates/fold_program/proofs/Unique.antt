@@ -9,7 +9,7 @@ use Rattle.fold_program.specs.Steps.{Outcome, Then, Answers}
 use Rattle.fold_program.specs.Words.{name_of, IsPlain, AreRefused}
 use Rattle.fold_program.specs.Outcome.{AreTooMany, AreWithin, HasCpFault, HasJsonFault, Does, HaveOneOutcome}
 use Rattle.fold_program.specs.declared.status.Status.{Status}
-use Rattle.fold_program.specs.declared.status.Status.TheVariants.{Text, Words}
+use Rattle.fold_program.specs.declared.status.Status.TheVariants.{Text}
 use Rattle.fold_program.specs.declared.status.TextFault.TheVariants as text
 use Rattle.fold_program.specs.declared.words.Command.{Command}
 use Rattle.fold_program.specs.declared.words.Command.TheVariants.{Show}

@@ -1,5 +1,5 @@
 -- The outcome of words and bytes, and what it has to do with the outside.
-use Rattle.std.specs.Prelude.{◌≡◌, ◌⊎◌, ℕ, ◌<◌, ◌≤◌, List, [], ◌∷◌, ◌++◌, length, Some}
+use Rattle.std.specs.Prelude.{◌≡◌, ◌⊎◌, ℕ, ◌<◌, ◌≤◌, List, [], ◌∷◌, ◌++◌, length, Some, None}
 use Rattle.std.specs.declared.option.Option.{Option}
 use Rattle.fold_base.specs.Outside.{Gains, GainsPart}
 use Rattle.fold_base.specs.declared.outside.TheConstants.{MOST_BYTES}
@@ -58,6 +58,11 @@ IsOutcome words bytes =
 -- The bytes that the outcome is of: all that are left, or any where the words have no command.
 abbrev pub AreInput : List (List ℕ) → Option (List ℕ) → List ℕ → Type 0
 AreInput words left bytes = (left ≡ Some bytes) ⊎ HaveNoCommand words
+
+-- These bytes are all that are left, where that is told.
+abbrev pub AreLeft : Option (List ℕ) → List ℕ → Type 0
+AreLeft None bytes = Unit {0}
+AreLeft (Some left) bytes = bytes ≡ left
 
 -- The status is the outcome, and its text was written and nothing else.
 abbrev pub Ends : List (List ℕ) → List ℕ → Option (List ℕ) → Option (List ℕ) → Status → Type 0

@@ -5,7 +5,7 @@ ghost use Rattle.fold_program.specs.Status.{IsAnswer, IsFailure, IsRefusal, of_r
 ghost use Rattle.fold_program.specs.Steps.{Follows};
 ghost use Rattle.fold_program.specs.Words.{texts, HaveNoCommand};
 ghost use Rattle.fold_program.specs.Notes.{GainsFront, note_line};
-ghost use Rattle.fold_program.specs.Outcome.{IsOutcome, AreInput, Ends, Breaks, HaveOutcome, HaveOneOutcome};
+ghost use Rattle.fold_program.specs.Outcome.{IsOutcome, AreInput, AreLeft, Ends, Breaks, HaveOutcome, HaveOneOutcome};
 ghost use Rattle.fold_program.specs.Taken.{Takes, TakesAll};
 
 use crate::notes::note;
@@ -36,6 +36,10 @@ pub fn run<S: Source, T: Sink, E: Sink>(
     ensures outcome { (bytes : List ℕ) → AreInput (texts words.now) (S.left source.old) bytes →
         IsFailure result
         ⊎ Ends (texts words.now) bytes (T.written sink.old) (T.written sink.new) result }
+
+    // Also where the source doesn't tell its bytes, the status is the outcome of some bytes.
+    ensures some { (bytes : List ℕ) × AreLeft (S.left source.old) bytes × (IsFailure result
+        ⊎ Ends (texts words.now) bytes (T.written sink.old) (T.written sink.new) result) }
 
     // Where writing fails, a text was due, and a proper prefix of it was written.
     ensures broken { result ≡ Status.Write →
@@ -113,6 +117,8 @@ fn perform<S: Source, T: Sink>(
     ensures outcome { (bytes : List ℕ) → AreInput (texts words.now) (S.left source.old) bytes →
         IsFailure result
         ⊎ Ends (texts words.now) bytes (T.written sink.old) (T.written sink.new) result }
+    ensures some { (bytes : List ℕ) × AreLeft (S.left source.old) bytes × (IsFailure result
+        ⊎ Ends (texts words.now) bytes (T.written sink.old) (T.written sink.new) result) }
     ensures broken { result ≡ Status.Write →
         (bytes : List ℕ) → AreInput (texts words.now) (S.left source.old) bytes →
         Breaks (texts words.now) bytes (T.written sink.old) (T.written sink.new) }
@@ -139,6 +145,8 @@ fn perform<S: Source, T: Sink>(
 fn prepare<S: Source>(alloc: Global, words: &[String], source: &mut S) -> Result<Output, Status>
     ensures outcome { (bytes : List ℕ) → AreInput (texts words.now) (S.left source.old) bytes →
         (result ≡ Err Status.Read) ⊎ Follows (IsOutcome (texts words.now) bytes) result }
+    ensures some { (bytes : List ℕ) × AreLeft (S.left source.old) bytes
+        × ((result ≡ Err Status.Read) ⊎ Follows (IsOutcome (texts words.now) bytes) result) }
     ensures answer { IfOk result (λ output. IsAnswer output.status) }
     ensures cause { IfErr result (λ status.
         IsRefusal status ⊎ ((status ≡ Status.Read) ⊎ (status ≡ Status.Memory))) }

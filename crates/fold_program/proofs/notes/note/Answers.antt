@@ -1,9 +1,7 @@
 use Rattle.std.proofs.Common.{◌≡◌, rules, inr, sym, subst}
 use Rattle.fold_base.specs.Outside.{Gains}
-use Rattle.fold_program.specs.Status.{IsAnswer}
 use Rattle.fold_program.specs.Notes.{GainsFront, note_line}
 use Rattle.fold_program.specs.declared.status.Status.{Status}
-use Rattle.fold_program.specs.declared.status.Status.TheVariants.{Done}
 use Rattle.fold_program.proofs.notes.note.Goals as goal
 
 pub returns-in-Memory-clause-whole : goal.returns-in-Memory-clause-whole

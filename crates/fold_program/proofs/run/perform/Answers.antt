@@ -12,3 +12,13 @@ returns-in-Ok-write_all_bytes-clause-outcome g c = λ bytes input. inr (ends_ans
 
 pub returns-clause-broken : goal.returns-clause-broken
 returns-clause-broken g c = λ e bytes input. breaks_off (texts c.args.words.now) bytes _ _ c.in-Ok.output (c.in-Ok.ensures.outcome bytes input) (subst (λ t. GainsPart (g.T.Sink.written c.args.sink.now) (g.T.Sink.written c.write_all_bytes.new.sink) t) c.bytes.ensures.same c.in-Err-write_all_bytes.ensures.part)
+
+pub returns-in-Err-clause-some : goal.returns-in-Err-clause-some
+returns-in-Err-clause-some g c =
+    let some = c.in-Err.ensures.some in
+    (some.0, some.1, ends_refused (texts c.args.words.now) some.0 _ c.in-Err.status some.2)
+
+pub returns-in-Ok-write_all_bytes-clause-some : goal.returns-in-Ok-write_all_bytes-clause-some
+returns-in-Ok-write_all_bytes-clause-some g c =
+    let some = c.in-Ok.ensures.some in
+    (some.0, some.1, inr (ends_answered (texts c.args.words.now) some.0 _ _ c.in-Ok.output some.2 (subst (λ t. Gains (g.T.Sink.written c.args.sink.now) (g.T.Sink.written c.write_all_bytes.new.sink) t) c.bytes.ensures.same c.in-Ok-write_all_bytes.ensures.whole)))
