@@ -5,7 +5,7 @@ use fold_base::MOST_BYTES;
 use std::alloc::AllocError;
 use std::fmt;
 
-/// Where a text stops to be CP text, and why.
+/// Where a text stops being CP text, and why.
 #[derive(Clone, Copy, Debug, PartialEq, Eq)]
 pub struct CpFault {
     /// Counted from 1.

@@ -3,11 +3,11 @@ use Rattle.std.specs.Prelude.{◌≡◌, ℕ, ◌+◌, ◌<◌, List, ◌++◌, 
 
 -- the text spells some value
 abbrev pub IsAccepted : {V : Type 0} → (List ℕ → V → Type 0) → List ℕ → Type 0
-IsAccepted {V} Spells text = (value : V) × Spells text value
+IsAccepted {V} Grammar text = (value : V) × Grammar text value
 
 -- some accepted text begins with this one
 abbrev pub Begins : {V : Type 0} → (List ℕ → V → Type 0) → List ℕ → Type 0
-Begins Spells text = (more : List ℕ) × IsAccepted Spells (text ++ more)
+Begins Grammar text = (more : List ℕ) × IsAccepted Grammar (text ++ more)
 
 -- Where a text goes wrong: at a byte that can't stand there, or by ending too early.
 pub data Stop : Type 0 where
@@ -16,9 +16,9 @@ pub data Stop : Type 0 where
 
 -- The first p bytes begin an accepted text. Either the first p + 1 bytes don't, or p is the length and the text isn't accepted.
 abbrev pub IsFirstFault : {V : Type 0} → (List ℕ → V → Type 0) → List ℕ → ℕ → Stop → Type 0
-IsFirstFault Spells text p Byte = (p < length text) × Begins Spells (take p text) × ¬ Begins Spells (take (p + 1) text)
-IsFirstFault Spells text p Ended = (p ≡ length text) × Begins Spells (take p text) × ¬ IsAccepted Spells text
+IsFirstFault Grammar text p Byte = (p < length text) × Begins Grammar (take p text) × ¬ Begins Grammar (take (p + 1) text)
+IsFirstFault Grammar text p Ended = (p ≡ length text) × Begins Grammar (take p text) × ¬ IsAccepted Grammar text
 
 -- the text has a first fault
 abbrev pub HasFirstFault : {V : Type 0} → (List ℕ → V → Type 0) → List ℕ → Type 0
-HasFirstFault Spells text = (p : ℕ) × (stop : Stop) × IsFirstFault Spells text p stop
+HasFirstFault Grammar text = (p : ℕ) × (stop : Stop) × IsFirstFault Grammar text p stop

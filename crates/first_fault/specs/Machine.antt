@@ -12,7 +12,7 @@ abbrev pub answer : {S V : Type 0} → (S → ℕ → Option S) → (S → Optio
 answer step finish s bytes = option_and_then finish (steps step s bytes)
 
 -- The machine answers exactly the values of the grammar, and where it goes on, an accepted text begins.
-pub record Decides {S V : Type 0} (Spells : List ℕ → V → Type 0) (step : S → ℕ → Option S) (finish : S → Option V) (start : S) : Type 0 where
-  pub sound : (t : List ℕ) (s : S) (v : V) → steps step start t ≡ Some s → finish s ≡ Some v → Spells t v
-  pub alive : (t : List ℕ) (s : S) → steps step start t ≡ Some s → Begins Spells t
-  pub complete : (t : List ℕ) (v : V) → Spells t v → answer step finish start t ≡ Some v
+pub record Decides {S V : Type 0} (Grammar : List ℕ → V → Type 0) (step : S → ℕ → Option S) (finish : S → Option V) (start : S) : Type 0 where
+  pub sound : (t : List ℕ) (s : S) (v : V) → steps step start t ≡ Some s → finish s ≡ Some v → Grammar t v
+  pub alive : (t : List ℕ) (s : S) → steps step start t ≡ Some s → Begins Grammar t
+  pub complete : (t : List ℕ) (v : V) → Grammar t v → answer step finish start t ≡ Some v

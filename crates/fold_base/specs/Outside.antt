@@ -34,7 +34,7 @@ Gains None (Some after) bytes = ⊥
 Gains (Some before) None bytes = ⊥
 Gains (Some before) (Some after) bytes = after ≡ before ++ bytes
 
--- The front of the bytes was gained, and not all of them.
+-- A front of the bytes was gained, and not all of them.
 abbrev pub GainsPart : Option (List ℕ) → Option (List ℕ) → List ℕ → Type 0
 GainsPart before after bytes =
     (front : List ℕ) × (rest : List ℕ) × (0 < length rest) × (bytes ≡ front ++ rest) × Gains before after front
@@ -49,7 +49,7 @@ abbrev pub MarksEnd : Option (List ℕ) → ℕ → Type 0
 MarksEnd None n = Unit {0}
 MarksEnd (Some bytes) n = (n ≡ 0) ↔ (bytes ≡ [])
 
--- What a call moved that answers how many bytes: the front of them, and nothing where it failed.
+-- What a call that answers a number of bytes has moved: so many of them, from the front, and nothing where it failed.
 abbrev pub moved : {E : Type 0} → Result ℕ E → List ℕ → List ℕ
 moved (Ok n) bytes = take n bytes
 moved (Err e) bytes = []

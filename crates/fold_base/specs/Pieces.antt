@@ -5,7 +5,8 @@ use Rattle.fold_base.specs.declared.outside.TheConstants.{MOST_BYTES}
 use Rattle.fold_base.specs.declared.pieces.ReadFault.{ReadFault}
 use Rattle.fold_base.specs.declared.pieces.ReadFault.TheVariants.{Failed, TooLong, Memory}
 
--- These bytes were handed on, and the rest was taken after them. Too long is one byte past the limit in all, not all of it handed on.
+-- These bytes were handed on, and the rest was taken after them. Where it was too long, one byte past the limit was taken in all,
+-- and no more than the limit was handed on.
 abbrev pub TakesUpTo : Result ℕ ReadFault → List ℕ → List ℕ → Type 0
 TakesUpTo (Ok n) handed rest = (length handed ≡ n) × (n ≤ MOST_BYTES) × (rest ≡ [])
 TakesUpTo (Err Failed) handed rest = (length handed ≤ MOST_BYTES) × (rest ≡ [])

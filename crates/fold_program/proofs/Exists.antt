@@ -12,11 +12,11 @@ use Rattle.json_tree.specs.Printed as json_form
 use Rattle.json_tree.specs.Spells.{Spells}
 use Rattle.json_read.specs.Causes as json
 use Rattle.fold_program.specs.Steps.{Outcome, Then}
-use Rattle.fold_program.specs.Words.{name_of, AreShowFrom, IsPlain, HaveNoCommand, AreRefused}
+use Rattle.fold_program.specs.Words.{name_of, AreShowFrom, AreWordsOf, HaveNoCommand, AreRefused}
 use Rattle.fold_program.specs.Outcome.{AreTooMany, AreWithin, HasCpFault, HasJsonFault, Does, HaveOutcome}
 use Rattle.fold_program.specs.declared.status.Status.{Status}
 use Rattle.fold_program.specs.declared.status.Status.TheVariants.{Done, Text, Words, Limit}
-use Rattle.fold_program.specs.declared.status.TextFault.TheVariants as text
+use Rattle.fold_program.specs.declared.status.TextFault.TheVariants as faults
 use Rattle.fold_program.specs.declared.status.WordsCause.TheVariants.{Refused, Value}
 use Rattle.fold_program.specs.declared.status.Limit.TheVariants.{TooLong}
 use Rattle.fold_program.specs.declared.words.Command.{Command}
@@ -97,7 +97,7 @@ no_command : (words : List (List ℕ)) → ¬ (words ≡ codes "show" ∷ []) �
 no_command words alone none (Show format) (inl p) = none format p
 no_command words alone none (Show format) (inr p) = alone p.0
 
-words_go : (words : List (List ℕ)) → Goes (AreRefused words) (IsPlain words)
+words_go : (words : List (List ℕ)) → Goes (AreRefused words) (AreWordsOf words)
 words_go words =
     elim (same_words words (codes "show" ∷ [])) [
       | inl e ↦ inr (Show Fold, inr (e, refl))
@@ -118,10 +118,10 @@ abbrev pub HasReading : {V F : Type 0} → (List ℕ → V → Type 0) → (List
 HasReading {V} {F} spells names = (bytes : List ℕ) → ((value : V) × spells bytes value) ⊎ ((fault : F) × names bytes fault)
 
 json_goes : HasReading Spells json.NamesFirstFault → (bytes : List ℕ) → Goes (HasJsonFault bytes) (Spells bytes)
-json_goes reading bytes = elim (reading bytes) [ inl p ↦ inr p | inr p ↦ inl (Text (text.Json p.0), (p.0, p.1, refl)) ]
+json_goes reading bytes = elim (reading bytes) [ inl p ↦ inr p | inr p ↦ inl (Text (faults.Json p.0), (p.0, p.1, refl)) ]
 
 cp_goes : HasReading CpText cp.NamesFirstFault → (bytes : List ℕ) → Goes (HasCpFault bytes) (CpText bytes)
-cp_goes reading bytes = elim (reading bytes) [ inl p ↦ inr p | inr p ↦ inl (Text (text.Cp p.0), (p.0, p.1, refl)) ]
+cp_goes reading bytes = elim (reading bytes) [ inl p ↦ inr p | inr p ↦ inl (Text (faults.Cp p.0), (p.0, p.1, refl)) ]
 
 module _ (fold : HasReading Spells json.NamesFirstFault) (cp_text : HasReading CpText cp.NamesFirstFault) where
   does_some : (command : Command) (bytes : List ℕ) → Comes (Does command bytes)

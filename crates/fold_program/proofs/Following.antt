@@ -7,7 +7,7 @@ use Rattle.fold_base.specs.declared.pieces.ReadFault.TheVariants as read
 use Rattle.fold_program.specs.Status.{of_read}
 use Rattle.fold_program.specs.Steps.{Outcome, Then, Follows}
 use Rattle.fold_program.specs.Taken.{Takes}
-use Rattle.fold_program.specs.Words.{IsPlain, AreRefused}
+use Rattle.fold_program.specs.Words.{AreWordsOf, AreRefused}
 use Rattle.fold_program.specs.Outcome.{Does, IsOutcome, AreInput, AreLeft}
 use Rattle.fold_program.specs.declared.status.Status.{Status}
 use Rattle.fold_program.specs.declared.status.Status.TheVariants.{Read, Words}
@@ -22,7 +22,7 @@ follows_then refuses gives next x g (Err s) (inl memory) = inl memory
 follows_then refuses gives next x g (Err s) (inr h) = inr (h.0, inr (x, g, h.1))
 
 -- the words are a command's, and it was done with all the bytes, which are no more than a text may have
-pub follows_command : (words : List (List ℕ)) (command : Command) (left : Option (List ℕ)) (Taken : List ℕ → Type 0) (r : Result Output Status) → IsPlain words command
+pub follows_command : (words : List (List ℕ)) (command : Command) (left : Option (List ℕ)) (Taken : List ℕ → Type 0) (r : Result Output Status) → AreWordsOf words command
     → IfSome left (λ bytes. Taken bytes × (length bytes ≤ MOST_BYTES)) → ((bytes : List ℕ) → Taken bytes → Follows (Does command bytes) r)
     → (bytes : List ℕ) → AreInput words left bytes → (r ≡ Err Read) ⊎ Follows (IsOutcome words bytes) r
 follows_command words command left Taken r plain all does bytes (inr none) = absurd (none command plain)
@@ -40,14 +40,14 @@ pub follows_refused : (words : List (List ℕ)) (cause : WordsCause) → AreRefu
 follows_refused words cause refused bytes = inr (tt, inl (refused, refl))
 
 -- a command whose bytes can't be had whole
-follows_unread : (words : List (List ℕ)) (command : Command) → IsPlain words command → (fault : ReadFault) (bytes : List ℕ) → (fault ≡ read.TooLong → MOST_BYTES < length bytes)
+follows_unread : (words : List (List ℕ)) (command : Command) → AreWordsOf words command → (fault : ReadFault) (bytes : List ℕ) → (fault ≡ read.TooLong → MOST_BYTES < length bytes)
     → (let r : Result Output Status = Err (of_read fault) in (r ≡ Err Read) ⊎ Follows (IsOutcome words bytes) r)
 follows_unread words command plain read.Failed bytes long = inl refl
 follows_unread words command plain read.TooLong bytes long = inr (inr (tt, inr (command, plain, inl ((long refl, refl), refl))))
 follows_unread words command plain (read.Memory error) bytes long = inr (inl refl)
 
 -- where the bytes aren't told, it was done with some that are no more than a text may have
-pub follows_some : (words : List (List ℕ)) (command : Command) (left : Option (List ℕ)) (Taken : List ℕ → Type 0) (r : Result Output Status) → IsPlain words command
+pub follows_some : (words : List (List ℕ)) (command : Command) (left : Option (List ℕ)) (Taken : List ℕ → Type 0) (r : Result Output Status) → AreWordsOf words command
     → IfSome left (λ bytes. Taken bytes × (length bytes ≤ MOST_BYTES)) → ((bytes : List ℕ) × Taken bytes × (length bytes ≤ MOST_BYTES)) → ((bytes : List ℕ) → Taken bytes → Follows (Does command bytes) r)
     → (bytes : List ℕ) × AreLeft left bytes × ((r ≡ Err Read) ⊎ Follows (IsOutcome words bytes) r)
 follows_some words command left Taken r plain all some does =
@@ -57,7 +57,7 @@ follows_some words command left Taken r plain all some does =
     (λ untold. inr (follows_then _ _ _ command plain r (follows_then _ _ _ some.0 (some.2, refl) r (does some.0 some.1))))
 
 -- where too many bytes are left, or more were taken than a text may have
-pub unread_some : (words : List (List ℕ)) (command : Command) → IsPlain words command → (left : Option (List ℕ)) (fault : ReadFault) → (fault ≡ read.TooLong → IfSome left (λ bytes. MOST_BYTES < length bytes))
+pub unread_some : (words : List (List ℕ)) (command : Command) → AreWordsOf words command → (left : Option (List ℕ)) (fault : ReadFault) → (fault ≡ read.TooLong → IfSome left (λ bytes. MOST_BYTES < length bytes))
     → (taken : List ℕ) → Takes (of_read fault) (length taken)
     → (bytes : List ℕ) × AreLeft left bytes × (let r : Result Output Status = Err (of_read fault) in (r ≡ Err Read) ⊎ Follows (IsOutcome words bytes) r)
 unread_some words command plain left fault long taken size =

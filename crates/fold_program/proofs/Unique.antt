@@ -6,11 +6,11 @@ use Rattle.cp_lines.specs.Reads as cp
 use Rattle.json_tree.specs.Spells.{Spells}
 use Rattle.json_read.specs.Causes as json
 use Rattle.fold_program.specs.Steps.{Outcome, Then, Answers}
-use Rattle.fold_program.specs.Words.{name_of, IsPlain, AreRefused}
-use Rattle.fold_program.specs.Outcome.{AreTooMany, AreWithin, HasCpFault, HasJsonFault, Does, HaveOneOutcome}
+use Rattle.fold_program.specs.Words.{name_of, AreWordsOf, AreRefused}
+use Rattle.fold_program.specs.Outcome.{AreTooMany, AreWithin, HasCpFault, HasJsonFault, Does, HaveAtMostOneOutcome}
 use Rattle.fold_program.specs.declared.status.Status.{Status}
 use Rattle.fold_program.specs.declared.status.Status.TheVariants.{Text}
-use Rattle.fold_program.specs.declared.status.TextFault.TheVariants as text
+use Rattle.fold_program.specs.declared.status.TextFault.TheVariants as faults
 use Rattle.fold_program.specs.declared.words.Command.{Command}
 use Rattle.fold_program.specs.declared.words.Command.TheVariants.{Show}
 use Rattle.fold_program.specs.declared.words.Format.{Format}
@@ -45,7 +45,7 @@ one_format Fold Cp e = cc
 one_format Cp Fold e = cc
 one_format Cp Cp e = refl
 
-one_plain : (words : List (List ℕ)) (c d : Command) → IsPlain words c → IsPlain words d → c ≡ d
+one_plain : (words : List (List ℕ)) (c d : Command) → AreWordsOf words c → AreWordsOf words d → c ≡ d
 one_plain words (Show f) (Show g) (inl p) (inl q) = ap Show (one_format f g (append_cancel_left (codes "--from=") (name_of f) (name_of g) (let e = sym p ∙ q in cc)))
 one_plain words (Show f) (Show g) (inl p) (inr q) = absurd (let e = sym p ∙ q.0 in cc)
 one_plain words (Show f) (Show g) (inr p) (inl q) = absurd (let e = sym p.0 ∙ q in cc)
@@ -58,7 +58,7 @@ one_refused words s s' p q =
       | inr v ↦ elim q.1 [ inl w ↦ absurd (v.0 w.0) | inr w ↦ v.1 ∙ sym w.1 ]
     ]
 
-words_step : (words : List (List ℕ)) → IsStep (AreRefused words) (IsPlain words)
+words_step : (words : List (List ℕ)) → IsStep (AreRefused words) (AreWordsOf words)
 words_step words = record {
   one_refusal = one_refused words;
   one_value = one_plain words;
@@ -85,14 +85,14 @@ pub record HaveOneReading : Type 0 where
 
 json_step : HaveOneReading → (bytes : List ℕ) → IsStep (HasJsonFault bytes) (Spells bytes)
 json_step one bytes = record {
-  one_refusal = λ s s' p q. p.2 ∙ ap (λ f. Text (text.Json f)) (one.fold.fault bytes p.0 q.0 p.1 q.1) ∙ sym q.2;
+  one_refusal = λ s s' p q. p.2 ∙ ap (λ f. Text (faults.Json f)) (one.fold.fault bytes p.0 q.0 p.1 q.1) ∙ sym q.2;
   one_value = one.fold.value bytes;
   apart = λ s v p q. one.fold.either bytes v p.0 q p.1;
 }
 
 cp_step : HaveOneReading → (bytes : List ℕ) → IsStep (HasCpFault bytes) (CpText bytes)
 cp_step one bytes = record {
-  one_refusal = λ s s' p q. p.2 ∙ ap (λ f. Text (text.Cp f)) (one.cp.fault bytes p.0 q.0 p.1 q.1) ∙ sym q.2;
+  one_refusal = λ s s' p q. p.2 ∙ ap (λ f. Text (faults.Cp f)) (one.cp.fault bytes p.0 q.0 p.1 q.1) ∙ sym q.2;
   one_value = one.cp.value bytes;
   apart = λ s v p q. one.cp.either bytes v p.0 q p.1;
 }
@@ -101,5 +101,5 @@ one_done : HaveOneReading → (command : Command) (bytes : List ℕ) → IsOne (
 one_done one (Show Fold) bytes = one_then _ _ _ (json_step one bytes) (λ tree spells. one_answer _ _)
 one_done one (Show Cp) bytes = one_then _ _ _ (cp_step one bytes) (λ lines spells. one_answer _ _)
 
-pub one_outcome : HaveOneReading → (words : List (List ℕ)) (bytes : List ℕ) → HaveOneOutcome words bytes
+pub one_outcome : HaveOneReading → (words : List (List ℕ)) (bytes : List ℕ) → HaveAtMostOneOutcome words bytes
 one_outcome one words bytes = one_then _ _ _ (words_step words) (λ command plain. one_then _ _ _ (size_step bytes) (λ given within. one_done one command given))

@@ -13,17 +13,21 @@ use Rattle.fold_program.specs.declared.status.WordsCause.TheVariants.{Refused, V
 use Rattle.fold_program.specs.declared.status.Limit.{Limit as AnyLimit}
 use Rattle.fold_program.specs.declared.status.Limit.TheVariants.{TooLong}
 
+-- What is said of a text that isn't of its format.
 abbrev pub text_message : TextFault → List ℕ
 text_message (Json fault) = json.fault_text fault
 text_message (Cp fault) = cp.fault_text fault
 
+-- What is said of words that are refused.
 abbrev pub words_message : WordsCause → List ℕ
 words_message Refused = codes "words refused"
 words_message Value = codes "words value"
 
+-- What is said of input that is past a limit.
 abbrev pub limit_message : AnyLimit → List ℕ
 limit_message TooLong = codes "too long"
 
+-- What is said of a status. Of `Done` nothing is put.
 abbrev pub message : Status → List ℕ
 message Done = codes "done"
 message (Text fault) = text_message fault

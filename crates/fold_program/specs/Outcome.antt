@@ -13,10 +13,10 @@ use Rattle.json_read.specs.Causes as json
 use Rattle.json_read.specs.declared.fault.JsonFault.{JsonFault}
 use Rattle.fold_program.specs.Status.{IsAnswer}
 use Rattle.fold_program.specs.Steps.{Outcome, Then, Answers}
-use Rattle.fold_program.specs.Words.{IsPlain, HaveNoCommand, AreRefused}
+use Rattle.fold_program.specs.Words.{AreWordsOf, HaveNoCommand, AreRefused}
 use Rattle.fold_program.specs.declared.status.Status.{Status}
 use Rattle.fold_program.specs.declared.status.Status.TheVariants.{Done, Text, Limit}
-use Rattle.fold_program.specs.declared.status.TextFault.TheVariants as text
+use Rattle.fold_program.specs.declared.status.TextFault.TheVariants as faults
 use Rattle.fold_program.specs.declared.status.Limit.TheVariants.{TooLong}
 use Rattle.fold_program.specs.declared.words.Command.{Command}
 use Rattle.fold_program.specs.declared.words.Command.TheVariants.{Show}
@@ -33,11 +33,11 @@ AreWithin bytes given = (length bytes ≤ MOST_BYTES) × (given ≡ bytes)
 
 -- The bytes are no CP text, and the status names their first fault.
 abbrev pub HasCpFault : List ℕ → Status → Type 0
-HasCpFault bytes status = (fault : CpFault) × cp.NamesFirstFault bytes fault × (status ≡ Text (text.Cp fault))
+HasCpFault bytes status = (fault : CpFault) × cp.NamesFirstFault bytes fault × (status ≡ Text (faults.Cp fault))
 
 -- The bytes are no JSON text, and the status names their first fault.
 abbrev pub HasJsonFault : List ℕ → Status → Type 0
-HasJsonFault bytes status = (fault : JsonFault) × json.NamesFirstFault bytes fault × (status ≡ Text (text.Json fault))
+HasJsonFault bytes status = (fault : JsonFault) × json.NamesFirstFault bytes fault × (status ≡ Text (faults.Json fault))
 
 -- The text of a file, refused at its first fault, or else printed. A printed tree is a line.
 abbrev pub Shows : Format → List ℕ → Outcome
@@ -51,7 +51,7 @@ Does (Show format) = Shows format
 -- The outcome of words and bytes: words of no command are refused, then too many bytes, and then the command decides.
 abbrev pub IsOutcome : List (List ℕ) → List ℕ → Outcome
 IsOutcome words bytes =
-    Then (AreRefused words) (IsPlain words) (λ command.
+    Then (AreRefused words) (AreWordsOf words) (λ command.
     Then (AreTooMany bytes) (AreWithin bytes) (λ given.
     Does command given))
 
@@ -65,12 +65,12 @@ AreLeft None bytes = Unit {0}
 AreLeft (Some left) bytes = bytes ≡ left
 
 -- The status is the outcome, and its text was written and nothing else.
-abbrev pub Ends : List (List ℕ) → List ℕ → Option (List ℕ) → Option (List ℕ) → Status → Type 0
-Ends words bytes before after status = (text : List ℕ) × IsOutcome words bytes status text × Gains before after text
+abbrev pub IsOutcomeWritten : List (List ℕ) → List ℕ → Option (List ℕ) → Option (List ℕ) → Status → Type 0
+IsOutcomeWritten words bytes before after status = (text : List ℕ) × IsOutcome words bytes status text × Gains before after text
 
 -- A text was due, and a proper prefix of it was written.
-abbrev pub Breaks : List (List ℕ) → List ℕ → Option (List ℕ) → Option (List ℕ) → Type 0
-Breaks words bytes before after =
+abbrev pub IsOutcomeCutShort : List (List ℕ) → List ℕ → Option (List ℕ) → Option (List ℕ) → Type 0
+IsOutcomeCutShort words bytes before after =
     (due : Status) × (text : List ℕ) × IsAnswer due × IsOutcome words bytes due text × GainsPart before after text
 
 -- Words and bytes have an outcome.
@@ -78,5 +78,5 @@ abbrev pub HaveOutcome : List (List ℕ) → List ℕ → Type 0
 HaveOutcome words bytes = (status : Status) × (text : List ℕ) × IsOutcome words bytes status text
 
 -- Words and bytes have one outcome at most: one status, and one text.
-abbrev pub HaveOneOutcome : List (List ℕ) → List ℕ → Type 0
-HaveOneOutcome words bytes = (s s' : Status) (t t' : List ℕ) → IsOutcome words bytes s t → IsOutcome words bytes s' t' → (s ≡ s') × (t ≡ t')
+abbrev pub HaveAtMostOneOutcome : List (List ℕ) → List ℕ → Type 0
+HaveAtMostOneOutcome words bytes = (s s' : Status) (t t' : List ℕ) → IsOutcome words bytes s t → IsOutcome words bytes s' t' → (s ≡ s') × (t ≡ t')

@@ -23,12 +23,12 @@ abbrev pub AreShowFrom : List ℕ → List (List ℕ) → Type 0
 AreShowFrom value words = words ≡ codes "show" ∷ (codes "--from=" ++ value) ∷ []
 
 -- They are words of this command. What isn't said is `--from=fold`.
-abbrev pub IsPlain : List (List ℕ) → Command → Type 0
-IsPlain words (Show format) = AreShowFrom (name_of format) words ⊎ ((words ≡ codes "show" ∷ []) × (format ≡ Fold))
+abbrev pub AreWordsOf : List (List ℕ) → Command → Type 0
+AreWordsOf words (Show format) = AreShowFrom (name_of format) words ⊎ ((words ≡ codes "show" ∷ []) × (format ≡ Fold))
 
 -- They are the words of no command.
 abbrev pub HaveNoCommand : List (List ℕ) → Type 0
-HaveNoCommand words = (command : Command) → ¬ (IsPlain words command)
+HaveNoCommand words = (command : Command) → ¬ (AreWordsOf words command)
 
 -- They are words of a command but for a value that its option doesn't take.
 abbrev pub HaveOtherValue : List (List ℕ) → Type 0

@@ -5,7 +5,7 @@ ghost use Rattle.fold_program.specs.Status.{IsAnswer, IsFailure, IsRefusal, of_r
 ghost use Rattle.fold_program.specs.Steps.{Follows};
 ghost use Rattle.fold_program.specs.Words.{texts, HaveNoCommand};
 ghost use Rattle.fold_program.specs.Notes.{GainsFront, note_line};
-ghost use Rattle.fold_program.specs.Outcome.{IsOutcome, AreInput, AreLeft, Ends, Breaks, HaveOutcome, HaveOneOutcome};
+ghost use Rattle.fold_program.specs.Outcome.{IsOutcome, AreInput, AreLeft, IsOutcomeWritten, IsOutcomeCutShort, HaveOutcome, HaveAtMostOneOutcome};
 ghost use Rattle.fold_program.specs.Taken.{Takes, TakesAll};
 
 use crate::notes::note;
@@ -35,16 +35,19 @@ pub fn run<S: Source, T: Sink, E: Sink>(
     // text was written and nothing else.
     ensures outcome { (bytes : List ℕ) → AreInput (texts words.now) (S.left source.old) bytes →
         IsFailure result
-        ⊎ Ends (texts words.now) bytes (T.written sink.old) (T.written sink.new) result }
+        ⊎ IsOutcomeWritten (texts words.now) bytes (T.written sink.old) (T.written sink.new) result }
 
-    // Also where the source doesn't tell its bytes, the status is the outcome of some bytes.
-    ensures some { (bytes : List ℕ) × AreLeft (S.left source.old) bytes × (IsFailure result
-        ⊎ Ends (texts words.now) bytes (T.written sink.old) (T.written sink.new) result) }
+    // Also where the source doesn't tell its bytes, it was so of some bytes.
+    ensures some { (bytes : List ℕ) × AreLeft (S.left source.old) bytes
+        × (IsFailure result
+            ⊎ IsOutcomeWritten (texts words.now) bytes (T.written sink.old) (T.written sink.new) result)
+        × (result ≡ Status.Write →
+            IsOutcomeCutShort (texts words.now) bytes (T.written sink.old) (T.written sink.new)) }
 
     // Where writing fails, a text was due, and a proper prefix of it was written.
     ensures broken { result ≡ Status.Write →
         (bytes : List ℕ) → AreInput (texts words.now) (S.left source.old) bytes →
-        Breaks (texts words.now) bytes (T.written sink.old) (T.written sink.new) }
+        IsOutcomeCutShort (texts words.now) bytes (T.written sink.old) (T.written sink.new) }
 
     // Reading and writing fail only from outside.
     ensures read { result ≡ Status.Read → Rose (S.faults source.old) (S.faults source.new) }
@@ -74,7 +77,7 @@ pub fn run<S: Source, T: Sink, E: Sink>(
         ¬ (Rose (T.faults sink.old) (T.faults sink.new)) →
         (bytes : List ℕ) → AreInput (texts words.now) (S.left source.old) bytes →
         (result ≡ Status.Memory)
-        ⊎ Ends (texts words.now) bytes (T.written sink.old) (T.written sink.new) result }
+        ⊎ IsOutcomeWritten (texts words.now) bytes (T.written sink.old) (T.written sink.new) result }
 {
     let status = perform(alloc, words, source, sink);
     note(alloc, &status, notes);
@@ -101,7 +104,7 @@ pub fn run_calm<E: Sink>(
 /// Words and bytes have one outcome.
 pub fn one_outcome()
     ensures some { (words : List (List ℕ)) (bytes : List ℕ) → HaveOutcome words bytes }
-    ensures one { (words : List (List ℕ)) (bytes : List ℕ) → HaveOneOutcome words bytes }
+    ensures one { (words : List (List ℕ)) (bytes : List ℕ) → HaveAtMostOneOutcome words bytes }
 {
     cp_lines::one_reading();
     json_read::one_reading();
@@ -116,12 +119,15 @@ fn perform<S: Source, T: Sink>(
 ) -> Status
     ensures outcome { (bytes : List ℕ) → AreInput (texts words.now) (S.left source.old) bytes →
         IsFailure result
-        ⊎ Ends (texts words.now) bytes (T.written sink.old) (T.written sink.new) result }
-    ensures some { (bytes : List ℕ) × AreLeft (S.left source.old) bytes × (IsFailure result
-        ⊎ Ends (texts words.now) bytes (T.written sink.old) (T.written sink.new) result) }
+        ⊎ IsOutcomeWritten (texts words.now) bytes (T.written sink.old) (T.written sink.new) result }
+    ensures some { (bytes : List ℕ) × AreLeft (S.left source.old) bytes
+        × (IsFailure result
+            ⊎ IsOutcomeWritten (texts words.now) bytes (T.written sink.old) (T.written sink.new) result)
+        × (result ≡ Status.Write →
+            IsOutcomeCutShort (texts words.now) bytes (T.written sink.old) (T.written sink.new)) }
     ensures broken { result ≡ Status.Write →
         (bytes : List ℕ) → AreInput (texts words.now) (S.left source.old) bytes →
-        Breaks (texts words.now) bytes (T.written sink.old) (T.written sink.new) }
+        IsOutcomeCutShort (texts words.now) bytes (T.written sink.old) (T.written sink.new) }
     ensures read { result ≡ Status.Read → Rose (S.faults source.old) (S.faults source.new) }
     ensures write { result ≡ Status.Write → Rose (T.faults sink.old) (T.faults sink.new) }
     ensures silent { IsRefusal result ⊎ ((result ≡ Status.Read) ⊎ (result ≡ Status.Memory)) →

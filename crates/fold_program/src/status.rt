@@ -22,7 +22,7 @@ pub enum Status {
     Memory,
 }
 
-/// Where the input stops to be of its format.
+/// Where the input stops being of its format.
 #[derive(Clone, Copy, Debug, PartialEq, Eq)]
 pub enum TextFault {
     Json(JsonFault),

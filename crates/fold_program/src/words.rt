@@ -1,6 +1,6 @@
 // The words of the command line, read by hand.
 ghost use Rattle.std.specs.Prelude.{◌≡◌, ◌≢◌, ◌∷◌, ◌++◌, ◌↔◌, [], ℕ, List, IsTrue, IfOk, IfErr, MatchOption, codes};
-ghost use Rattle.fold_program.specs.Words.{texts, name_of, IsPlain, AreRefused, AreShowFrom};
+ghost use Rattle.fold_program.specs.Words.{texts, name_of, AreWordsOf, AreRefused, AreShowFrom};
 
 use crate::status::{Status, WordsCause};
 
@@ -20,7 +20,7 @@ pub enum Format {
 }
 
 pub fn read_words(words: &[String]) -> Result<Command, WordsCause>
-    ensures ok { IfOk result (IsPlain (texts words.now)) }
+    ensures ok { IfOk result (AreWordsOf (texts words.now)) }
     ensures err { IfErr result (λ cause. AreRefused (texts words.now) (Status.Words cause)) }
 {
     if is_show_alone(words) {

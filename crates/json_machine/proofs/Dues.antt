@@ -4,7 +4,7 @@ use Rattle.json_tree.specs.Word.{SpellsCharacters}
 use Rattle.json_tree.specs.declared.tree.Json.{Json}
 use Rattle.json_tree.specs.declared.tree.Member.{Member}
 use Rattle.json_machine.specs.Machine.{Frame, InList, InObject, Phase, ValueDue, FirstValueDue, KeyDue, FirstKeyDue, ColonDue, InKey, start, step}
-use Rattle.json_machine.specs.Opens.{Heads, KeyHeads, MemberIsDue, ValueIsDue, KeyIsDue}
+use Rattle.json_machine.specs.Due.{ItemsWithCommas, MembersWithCommas, MemberIsDueInside, ValueIsDue, KeyIsDue}
 use Rattle.first_fault.proofs.Goes.{then_goes, byte_goes, none_goes, along}
 use Rattle.json_machine.proofs.Runs.{at, Go, IsDue, IsKeyDue, blanks_go, due_blanks, key_blanks, due_open, due_brace, key_quote, key_goes_on, spelled_key_goes, items_go, members_go}
 use Rattle.json_machine.proofs.Words.{at_rest}
@@ -15,15 +15,15 @@ due_depth [] t d = omega arith
 due_depth (InList vs ∷ k) t d = let less = d.4 in omega arith
 due_depth (InObject ms x ∷ k) t d = let less = d.4 in omega arith
 
-heads_go : (k : List Frame) (heads : List ℕ) (vs : List Json) → Heads (suc (length k)) heads vs → (p : Phase) × IsDue p × Go (at (InList [] ∷ k) FirstValueDue) heads (at (InList vs ∷ k) p)
+heads_go : (k : List Frame) (heads : List ℕ) (vs : List Json) → ItemsWithCommas (suc (length k)) heads vs → (p : Phase) × IsDue p × Go (at (InList [] ∷ k) FirstValueDue) heads (at (InList vs ∷ k) p)
 heads_go k heads vs (inl none) = (FirstValueDue, inr refl, along none.0 (subst (λ x. Go (at (InList [] ∷ k) FirstValueDue) [] (at (InList x ∷ k) FirstValueDue)) (sym none.1) none_goes))
 heads_go k heads vs (inr some) = (ValueDue, inl refl, along some.1 (items_go some.2 k refl 44 (inr (inl refl)) (at (InList vs ∷ k) ValueDue) refl))
 
-key_heads_go : (k : List Frame) (heads : List ℕ) (ms : List Member) → KeyHeads (suc (length k)) heads ms → (p : Phase) × IsKeyDue p × Go (at (InObject [] [] ∷ k) FirstKeyDue) heads (at (InObject ms [] ∷ k) p)
+key_heads_go : (k : List Frame) (heads : List ℕ) (ms : List Member) → MembersWithCommas (suc (length k)) heads ms → (p : Phase) × IsKeyDue p × Go (at (InObject [] [] ∷ k) FirstKeyDue) heads (at (InObject ms [] ∷ k) p)
 key_heads_go k heads ms (inl none) = (FirstKeyDue, inr refl, along none.0 (subst (λ x. Go (at (InObject [] [] ∷ k) FirstKeyDue) [] (at (InObject x [] ∷ k) FirstKeyDue)) (sym none.1) none_goes))
 key_heads_go k heads ms (inr some) = (KeyDue, inl refl, along some.1 (members_go some.2 k refl 44 (inr (inl refl)) (at (InObject ms [] ∷ k) KeyDue) refl))
 
-member_due_goes : (k : List Frame) (t : List ℕ) (ms : List Member) → MemberIsDue (suc (length k)) ms t → (p : Phase) × IsKeyDue p × Go (at (InObject [] [] ∷ k) FirstKeyDue) t (at (InObject ms [] ∷ k) p)
+member_due_goes : (k : List Frame) (t : List ℕ) (ms : List Member) → MemberIsDueInside (suc (length k)) ms t → (p : Phase) × IsKeyDue p × Go (at (InObject [] [] ∷ k) FirstKeyDue) t (at (InObject ms [] ∷ k) p)
 member_due_goes k t ms d =
     let heads = key_heads_go k d.0 ms d.3 in
     (heads.0, heads.1, along d.2 (then_goes heads.2 (key_blanks (InObject ms [] ∷ k) heads.0 heads.1 d.1 d.4)))

@@ -17,7 +17,7 @@ use Rattle.json_tree.specs.declared.tree.Member.{Member}
 use Rattle.json_machine.specs.Machine.{Frame, InList, InObject, Phase, ValueDue, FirstValueDue, KeyDue, FirstKeyDue, ColonDue, InWord, InKey, InNumber, InLiteral, AfterValue, State, Sign, Blank, Quote, Open, Close, OpenBrace, CloseBrace, Comma, Colon, Other, sign_of, start, in_phase, pair, emitted, rooted, with_value, closed_list, closed_object, next_due, after_value, pushed, at_other, at_value, at_first_value, literal_left, in_literal, in_number, in_word, has_key, keyed, in_key, at_key, at_first_key, at_colon, by_phase, step, ending, finish}
 use Rattle.json_tree.specs.Number.{BeginsNumber}
 use Rattle.json_tree.specs.Scan.{begins_number, is_number}
-use Rattle.json_machine.specs.Opens.{Heads, KeyHeads, ItemIsDue, MemberValueIsDue, ValueIsDue, KeyIsDue}
+use Rattle.json_machine.specs.Due.{ItemsWithCommas, MembersWithCommas, ItemIsDueInside, MemberValueIsDueInside, ValueIsDue, KeyIsDue}
 use Rattle.json_machine.specs.WordScan.{WordState, WordPart, Between, Character, Escape, Unit0, Unit1, Unit2, Unit3, High, LowEscape, Low0, Low1, Low2, Low3, word_start, next_character, is_between}
 use Rattle.json_machine.proofs.Keys.{no_key_found, goes_on_new}
 use Rattle.json_tree.proofs.Numbers.{number_test, begins_test}
@@ -72,11 +72,11 @@ key_due_snoc ms k t b d i = (d.0, d.1 ++ b ∷ [], rw d.2 (simp append_assoc), d
 
 -- ---- values and members, one more
 
-items_more : (n : ℕ) (t heads last : List ℕ) (vs : List Json) (v : Json) → t ≡ heads ++ last → Heads n heads vs → SpellsItem n last v → SpellsItems n t (vs ++ v ∷ [])
+items_more : (n : ℕ) (t heads last : List ℕ) (vs : List Json) (v : Json) → t ≡ heads ++ last → ItemsWithCommas n heads vs → SpellsItem n last v → SpellsItems n t (vs ++ v ∷ [])
 items_more n t heads last vs v e (inl none) s = first_item v (subst (λ x. SpellsItem n x v) (sym (e ∙ ap (λ x. x ++ last) none.0)) s) (ap (λ x. x ++ v ∷ []) none.1)
 items_more n t heads last vs v e (inr some) s = next_item some.0 last vs v some.2 s (e ∙ ap (λ x. x ++ last) some.1) refl
 
-members_more : (n : ℕ) (t heads last : List ℕ) (ms : List Member) (m : Member) → t ≡ heads ++ last → KeyHeads n heads ms → SpellsMember n last m → ¬ HasKey ms m.key → SpellsMembers n t (ms ++ m ∷ [])
+members_more : (n : ℕ) (t heads last : List ℕ) (ms : List Member) (m : Member) → t ≡ heads ++ last → MembersWithCommas n heads ms → SpellsMember n last m → ¬ HasKey ms m.key → SpellsMembers n t (ms ++ m ∷ [])
 members_more n t heads last ms m e (inl none) s new = first_member m (subst (λ x. SpellsMember n x m) (sym (e ∙ ap (λ x. x ++ last) none.0)) s) (ap (λ x. x ++ m ∷ []) none.1)
 members_more n t heads last ms m e (inr some) s new = next_member some.0 last ms m some.2 s new (e ∙ ap (λ x. x ++ last) some.1) refl
 
@@ -92,18 +92,18 @@ some_members : {n : ℕ} {t : List ℕ} {ms : List Member} → SpellsMembers n t
 some_members (first_member m s e) none = not_ended [] m (sym none ∙ e)
 some_members (next_member front last ms m f l new te e) none = not_ended ms m (sym none ∙ e)
 
-no_heads : (n : ℕ) (t : List ℕ) → Heads n t [] → t ≡ []
+no_heads : (n : ℕ) (t : List ℕ) → ItemsWithCommas n t [] → t ≡ []
 no_heads n t (inl none) = none.0
 no_heads n t (inr some) = absurd (some_items some.2 refl)
 
-no_key_heads : (n : ℕ) (t : List ℕ) → KeyHeads n t [] → t ≡ []
+no_key_heads : (n : ℕ) (t : List ℕ) → MembersWithCommas n t [] → t ≡ []
 no_key_heads n t (inl none) = none.0
 no_key_heads n t (inr some) = absurd (some_members some.2 refl)
 
 -- ---- a list or an object ends or goes on
 
 -- inside of a list, with a value that is done
-item_done : (n : ℕ) (vs : List Json) (v : Json) (t value after : List ℕ) → ItemIsDue n vs t → SpellsValue n value v → AreBlanks after → SpellsItems n (t ++ value ++ after) (vs ++ v ∷ [])
+item_done : (n : ℕ) (vs : List Json) (v : Json) (t value after : List ℕ) → ItemIsDueInside n vs t → SpellsValue n value v → AreBlanks after → SpellsItems n (t ++ value ++ after) (vs ++ v ∷ [])
 item_done n vs v t value after d s a = items_more n (t ++ value ++ after) d.0 (d.1 ++ value ++ after) vs v (rw d.2 (simp append_assoc)) d.3 (item d.1 value after d.4 s a refl)
 
 list_ends : (vs : List Json) (k : List Frame) (v : Json) (t : List ℕ) → Done (InList vs ∷ k) v t → Done k (trees.List (vs ++ v ∷ [])) (t ++ 93 ∷ [])
@@ -119,7 +119,7 @@ list_goes_on vs k v t d =
     (e.0, heads, rw (d.3, e.2) (simp append_assoc), e.3, e.4, (heads, [], sym (append-nil heads), inr (e.1 ++ d.1 ++ d.2, refl, item_done (suc (length k)) vs v e.1 d.1 d.2 e.5 d.5 d.6), tt))
 
 -- inside of an object, with the value of a key
-member_done : (n : ℕ) (ms : List Member) (x : List ℕ) (v : Json) (t value after : List ℕ) → MemberValueIsDue n ms x t → SpellsValue n value v → AreBlanks after → SpellsMembers n (t ++ value ++ after) (ms ++ pair x v ∷ [])
+member_done : (n : ℕ) (ms : List Member) (x : List ℕ) (v : Json) (t value after : List ℕ) → MemberValueIsDueInside n ms x t → SpellsValue n value v → AreBlanks after → SpellsMembers n (t ++ value ++ after) (ms ++ pair x v ∷ [])
 member_done n ms x v t value after d s a =
     let m = d.4 in
     let c = d.6 in

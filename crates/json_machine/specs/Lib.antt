@@ -1,3 +1,3 @@
 pub mod WordScan
 pub mod Machine
-pub mod Opens
+pub mod Due

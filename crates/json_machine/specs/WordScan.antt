@@ -87,7 +87,7 @@ at_escape w b = if b == 117 then Some (in_part w Unit0) else option_map (λ c. p
 abbrev pub with_digit : (ℕ → Option WordState) → ℕ → Option WordState
 with_digit after b = if nat_lt (digit_value b) 16 then after (digit_value b) else None
 
--- two digits, after which some unit is no second half of a pair
+-- two digits, which begin no second half of a pair
 abbrev pub with_two : WordState → ℕ → Option WordState
 with_two w value = if is_in_range 220 223 value then None else Some (in_part w (Unit2 value))
 

@@ -11,7 +11,7 @@ use Rattle.first_fault.proofs.Machines.{leads, fault_at_byte}
 use Rattle.json_tree.specs.Spells.{Spells}
 use Rattle.json_tree.specs.declared.tree.Member.{Member}
 use Rattle.json_machine.specs.Machine.{Frame, InList, InObject, Phase, ValueDue, FirstValueDue, FirstKeyDue, ColonDue, InKey, State, sign_of, start, pushed, has_key, keyed, in_key, by_phase, step, finish}
-use Rattle.json_machine.specs.Opens.{ValueIsDue}
+use Rattle.json_machine.specs.Due.{ValueIsDue}
 use Rattle.json_machine.specs.WordScan.{WordState, next_character, by_part, is_between}
 use Rattle.json_machine.proofs.Decided.{decides}
 use Rattle.json_machine.proofs.Dues.{due_depth, due_goes, key_text_goes}

@@ -10,7 +10,7 @@ use Rattle.first_fault.proofs.Machines.{fault_at_end, steps_join}
 use Rattle.json_tree.specs.Spells.{Spells}
 use Rattle.json_tree.specs.declared.tree.Json.{Json}
 use Rattle.json_machine.specs.Machine.{State, step, finish, start}
-use Rattle.json_machine.specs.Opens.{ValueIsDue}
+use Rattle.json_machine.specs.Due.{ValueIsDue}
 use Rattle.json_machine.proofs.Decided.{decides}
 use Rattle.json_read.specs.Causes.{OpensTooDeep, RepeatsKey, IsFaultAt, NamesFirstFault}
 use Rattle.json_read.specs.Reads.{FeedAnswers, FinishAnswers}

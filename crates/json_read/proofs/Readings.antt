@@ -9,7 +9,7 @@ use Rattle.first_fault.proofs.Faults.{one_fault, no_fault, stopped}
 use Rattle.first_fault.proofs.Machines.{one_value, accepted_or_fault, tests_begins, steps-snoc}
 use Rattle.json_tree.specs.Printed.{printed}
 use Rattle.json_tree.specs.Spells.{Spells}
-use Rattle.json_tree.specs.Tree.{HasTexts, IsProper}
+use Rattle.json_tree.specs.Tree.{HasValidTexts, IsProper}
 use Rattle.json_tree.specs.declared.tree.Json.{Json}
 use Rattle.json_tree.proofs.Spelling.{printed_spells}
 use Rattle.json_machine.specs.Machine.{step, finish, start}
@@ -127,5 +127,5 @@ refused_finish text fault (Err (Text told)) n r = inl (ap (λ f. Err (Text f)) (
 refused_finish text fault (Err (Memory e)) n r = inr tt
 
 -- at the end of the printed form of a proper tree
-pub printed_reads_back : (tree : Json) (answer : Result Json JsonReadFault) → HasTexts tree → IsProper tree → FinishAnswers (printed tree) answer → (answer ≡ Ok tree) ⊎ LacksMemory answer
+pub printed_reads_back : (tree : Json) (answer : Result Json JsonReadFault) → HasValidTexts tree → IsProper tree → FinishAnswers (printed tree) answer → (answer ≡ Ok tree) ⊎ LacksMemory answer
 printed_reads_back tree answer texts proper r = accepted_finish (printed tree) tree answer (printed_spells tree texts proper) r

@@ -1,4 +1,4 @@
--- Where a text stops to be JSON text, and why.
+-- Where a text stops being JSON text, and why.
 use Rattle.std.specs.Prelude.{◌≡◌, ◌⊎◌, ℕ, ◌+◌, List, ◌++◌, length, take, slice_index}
 use Rattle.first_fault.specs.FirstFault as first
 use Rattle.json_tree.specs.Spells.{Spells}
@@ -6,12 +6,12 @@ use Rattle.json_tree.specs.Tree.{HasKey}
 use Rattle.json_tree.specs.Word.{SpellsWord}
 use Rattle.json_tree.specs.declared.tree.Member.{Member}
 use Rattle.json_machine.specs.Machine.{Frame}
-use Rattle.json_machine.specs.Opens.{ValueIsDue, KeyIsDue}
+use Rattle.json_machine.specs.Due.{ValueIsDue, KeyIsDue}
 use Rattle.json_read.specs.declared.fault.JsonCause.{JsonCause}
 use Rattle.json_read.specs.declared.fault.JsonCause.TheVariants.{Byte, Ended, KeyTwice, Deep}
 use Rattle.json_read.specs.declared.fault.JsonFault.{JsonFault}
 
--- the byte at p opens a list or an object inside of 64
+-- the byte at p opens a list or an object inside of 64 others
 abbrev pub OpensTooDeep : List ℕ → ℕ → Type 0
 OpensTooDeep text p = (frames : List Frame) × ValueIsDue frames (take p text) × (length frames ≡ 64) × ((slice_index text p ≡ 91) ⊎ (slice_index text p ≡ 123))
 

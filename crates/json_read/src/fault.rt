@@ -3,7 +3,7 @@ ghost use Rattle.std.specs.Prelude.{◌≡◌};
 use std::alloc::AllocError;
 use std::fmt;
 
-/// Where a text stops to be JSON text, and why.
+/// Where a text stops being JSON text, and why.
 #[derive(Clone, Copy, Debug, PartialEq, Eq)]
 pub struct JsonFault {
     /// Counted in bytes from 0.
@@ -11,6 +11,7 @@ pub struct JsonFault {
     pub cause: JsonCause,
 }
 
+/// Why a text stops being JSON text.
 #[derive(Clone, Copy, Debug, PartialEq, Eq)]
 pub enum JsonCause {
     /// The byte there can't stand there, whatever follows.
@@ -19,13 +20,16 @@ pub enum JsonCause {
     Ended,
     /// The quote there ends a key that an earlier member of its object has.
     KeyTwice,
-    /// The bracket or brace there opens a list or an object inside of 64.
+    /// The bracket or brace there opens a list or an object inside of 64 others.
     Deep,
 }
 
+/// Why a reader gives no tree.
 #[derive(Clone, Copy, Debug, PartialEq, Eq)]
 pub enum JsonReadFault {
+    /// The text is no JSON text.
     Text(JsonFault),
+    /// Memory was refused, and nothing is known of the text.
     Memory(AllocError),
 }
 

@@ -1,7 +1,7 @@
 ghost use Rattle.std.specs.Prelude.{◌≡◌, ◌≢◌, ◌⊎◌, ◌++◌, [], ◌∷◌, ℕ, List, Result, Ok, codes, replicate};
 ghost use Rattle.json_tree.specs.Printed.{printed};
 ghost use Rattle.json_tree.specs.Spells.{Spells};
-ghost use Rattle.json_tree.specs.Tree.{HasTexts, IsProper};
+ghost use Rattle.json_tree.specs.Tree.{HasValidTexts, IsProper};
 ghost use Rattle.json_tree.specs.declared.tree.Json.{Json};
 ghost use Rattle.json_read.specs.Causes.{IsFaultAt, NamesFirstFault};
 ghost use Rattle.json_read.specs.Reads.{FinishAnswers, LacksMemory};
@@ -21,7 +21,7 @@ pub fn one_reading()
 /// What may be answered at the end of the printed form of a proper tree is that tree, or want of memory. A reader takes
 /// at most [`fold_base::MOST_BYTES`] bytes, so this speaks of trees whose printed form is no longer.
 pub fn reads_back()
-    ensures { (tree : Json) (answer : Result Json JsonReadFault) → HasTexts tree → IsProper tree
+    ensures { (tree : Json) (answer : Result Json JsonReadFault) → HasValidTexts tree → IsProper tree
         → FinishAnswers (printed tree) answer → (answer ≡ Ok tree) ⊎ LacksMemory answer }
 {}
 
@@ -44,7 +44,7 @@ pub fn short_faults()
     ensures key_of_inner { IsFaultAt (codes "{\"a\":{\"a\":1}") 12 Ended }
     ensures quote_in_unit { IsFaultAt (codes "{\"\":1,\"\\u00\"") 11 Byte }
 
-    // A list or an object inside of 64, but no bracket where none can stand, and none within a word.
+    // A list or an object inside of 64 others, but no bracket where none can stand, and none within a word.
     ensures deep_list { IsFaultAt (replicate 65 91) 64 Deep }
     ensures deep_object { IsFaultAt (replicate 64 91 ++ codes "1,{}") 66 Deep }
     ensures bracket_after_number { IsFaultAt (replicate 64 91 ++ codes "1[") 65 Byte }

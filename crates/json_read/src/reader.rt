@@ -18,7 +18,8 @@ use fold_base::{MOST_BYTES, PieceTaker};
 use json_tree::Json;
 use std::alloc::{AllocError, Global};
 
-/// Reads a JSON text that comes in pieces. It keeps the tree so far and no text.
+/// Reads a JSON text that comes in pieces: RFC 8259, with distinct keys in each object, at most 64 lists and objects in one
+/// another, and no lone surrogate. It keeps the tree so far and no text.
 #[derive(Drop)]
 pub struct JsonReader {
     machine: Machine,
@@ -35,6 +36,7 @@ enum Health {
 }
 
 impl JsonReader {
+    /// A reader that has read nothing.
     pub fn new(alloc: Global) -> JsonReader
         ensures fed { fed result ≡ 0 }
         ensures read { HasRead result [] }
@@ -46,7 +48,7 @@ impl JsonReader {
         }
     }
 
-    /// Reads the next piece of the text.
+    /// Reads the next piece of the text, which may end anywhere, within a number or a character too.
     pub fn feed(&mut self, piece: &[u8]) -> Result<(), JsonReadFault>
         requires { fed self.old + length piece.now ≤ MOST_BYTES }
 

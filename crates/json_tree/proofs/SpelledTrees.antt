@@ -8,7 +8,7 @@ use Rattle.std.proofs.lemmas.List.{map-append}
 use lib.Utf8.{scalar, scalars}
 use Rattle.json_tree.specs.Spells.{Spells, SpellsValue, SpellsItem, SpellsItems, SpellsMember, SpellsMembers, null, truth, number, word, empty_list, list, empty_object, object, item, first, next, member, first_member, next_member}
 use Rattle.json_tree.specs.Word.{IsHighSurrogate, IsLowSurrogate, escaped_by, SpellsCharacter, itself, escaped, by_unit, by_pair, SpellsCharacters, none, more, SpellsWord}
-use Rattle.json_tree.specs.Tree.{keys, HasKey, AreDistinct, HasText, HasTexts, MemberHasTexts, IsProper, IsProperWithin}
+use Rattle.json_tree.specs.Tree.{keys, HasKey, AreDistinct, HasValidText, HasValidTexts, MemberHasValidTexts, IsProper, IsProperWithin}
 use Rattle.json_tree.specs.declared.tree.Json.{Json}
 use Rattle.json_tree.specs.declared.tree.Json.TheViews as trees
 use Rattle.json_tree.specs.declared.tree.Member.{Member}
@@ -65,29 +65,29 @@ keys_more members m d new = subst AreDistinct (sym (map-append (λ m. m.key) mem
 
 -- a tree that may nest so deep
 abbrev Fine : ℕ → Json → Type 0
-Fine levels tree = IsProperWithin levels tree × HasTexts tree
+Fine levels tree = IsProperWithin levels tree × HasValidTexts tree
 
 abbrev FineItems : ℕ → List Json → Type 0
-FineItems levels items = AllByRecursion (IsProperWithin levels) items × AllByRecursion HasTexts items
+FineItems levels items = AllByRecursion (IsProperWithin levels) items × AllByRecursion HasValidTexts items
 
 abbrev FineMember : ℕ → Member → Type 0
-FineMember levels m = IsProperWithin levels m.value × MemberHasTexts m
+FineMember levels m = IsProperWithin levels m.value × MemberHasValidTexts m
 
 abbrev FineMembers : ℕ → List Member → Type 0
-FineMembers levels members = (AreDistinct (keys members) × AllByRecursion (λ m. IsProperWithin levels m.value) members) × AllByRecursion MemberHasTexts members
+FineMembers levels members = (AreDistinct (keys members) × AllByRecursion (λ m. IsProperWithin levels m.value) members) × AllByRecursion MemberHasValidTexts members
 
 fine_list : (levels : ℕ) (items : List Json) → 0 < levels → FineItems (levels - 1) items → Fine levels (trees.List items)
-fine_list levels items some f = (list_proper levels items some f.0, every-List HasText (λ m. IsUtf8 m.key) items f.1 tt)
+fine_list levels items some f = (list_proper levels items some f.0, every-List HasValidText (λ m. IsUtf8 m.key) items f.1 tt)
 
 fine_object : (levels : ℕ) (members : List Member) → 0 < levels → FineMembers (levels - 1) members → Fine levels (trees.Object members)
-fine_object levels members some f = (object_proper levels members some f.0, every-Object HasText (λ m. IsUtf8 m.key) members f.1 tt)
+fine_object levels members some f = (object_proper levels members some f.0, every-Object HasValidText (λ m. IsUtf8 m.key) members f.1 tt)
 
 mutual
   value_fine : {depth : ℕ} {text : List ℕ} {tree : Json} → SpellsValue depth text tree → (levels : ℕ) → depth + levels ≡ 64 → Fine levels tree
-  value_fine (null te ve) levels sum = subst (Fine levels) (sym ve) (proper-Null levels, every-Null HasText (λ m. IsUtf8 m.key) tt)
-  value_fine (truth is te ve) levels sum = subst (Fine levels) (sym ve) (proper-Truth levels is, every-Truth HasText (λ m. IsUtf8 m.key) is tt)
-  value_fine {depth} {text} (number n ve) levels sum = subst (Fine levels) (sym ve) (proper-Number levels text, every-Number HasText (λ m. IsUtf8 m.key) text n)
-  value_fine {depth} {text} (word w s ve) levels sum = subst (Fine levels) (sym ve) (proper-Word levels w, every-Word HasText (λ m. IsUtf8 m.key) w (word_utf8 text w s))
+  value_fine (null te ve) levels sum = subst (Fine levels) (sym ve) (proper-Null levels, every-Null HasValidText (λ m. IsUtf8 m.key) tt)
+  value_fine (truth is te ve) levels sum = subst (Fine levels) (sym ve) (proper-Truth levels is, every-Truth HasValidText (λ m. IsUtf8 m.key) is tt)
+  value_fine {depth} {text} (number n ve) levels sum = subst (Fine levels) (sym ve) (proper-Number levels text, every-Number HasValidText (λ m. IsUtf8 m.key) text n)
+  value_fine {depth} {text} (word w s ve) levels sum = subst (Fine levels) (sym ve) (proper-Word levels w, every-Word HasValidText (λ m. IsUtf8 m.key) w (word_utf8 text w s))
   value_fine (empty_list blanks less b te ve) levels sum = subst (Fine levels) (sym ve) (fine_list levels [] (omega arith) (tt, tt))
   value_fine (list inner items less s te ve) levels sum = subst (Fine levels) (sym ve) (fine_list levels items (omega arith) (items_fine s (levels - 1) (omega arith)))
   value_fine (empty_object blanks less b te ve) levels sum = subst (Fine levels) (sym ve) (fine_object levels [] (omega arith) ((no_keys, tt), tt))
@@ -101,12 +101,12 @@ mutual
   items_fine (next front last earlier tree f s te ve) levels sum =
       let before = items_fine f levels sum in
       let one = item_fine s levels sum in
-      subst (FineItems levels) (sym ve) (with_last (IsProperWithin levels) earlier tree before.0 one.0, with_last HasTexts earlier tree before.1 one.1)
+      subst (FineItems levels) (sym ve) (with_last (IsProperWithin levels) earlier tree before.0 one.0, with_last HasValidTexts earlier tree before.1 one.1)
 
   member_fine : {depth : ℕ} {text : List ℕ} {m : Member} → SpellsMember depth text m → (levels : ℕ) → depth + levels ≡ 64 → FineMember levels m
   member_fine {depth} {text} {m} (member before key between value b k a s te) levels sum =
       let one = item_fine s levels sum in
-      (one.0, every_member HasText (λ m. IsUtf8 m.key) m (word_utf8 key m.key k) one.1)
+      (one.0, every_member HasValidText (λ m. IsUtf8 m.key) m (word_utf8 key m.key k) one.1)
 
   members_fine : {depth : ℕ} {text : List ℕ} {all : List Member} → SpellsMembers depth text all → (levels : ℕ) → depth + levels ≡ 64 → FineMembers levels all
   members_fine (first_member m s me) levels sum =
@@ -117,8 +117,8 @@ mutual
       let one = member_fine s levels sum in
       subst (FineMembers levels) (sym me) (
         (keys_more earlier m before.0.0 new, with_last (λ m. IsProperWithin levels m.value) earlier m before.0.1 one.0),
-        with_last MemberHasTexts earlier m before.1 one.1,
+        with_last MemberHasValidTexts earlier m before.1 one.1,
       )
 
-pub spelled : (text : List ℕ) (tree : Json) → Spells text tree → IsProper tree × HasTexts tree
+pub spelled : (text : List ℕ) (tree : Json) → Spells text tree → IsProper tree × HasValidTexts tree
 spelled text tree s = item_fine s 64 refl

@@ -12,7 +12,7 @@ use Rattle.json_tree.specs.Number.{IsNumber}
 use Rattle.json_tree.specs.Printed.{printed, printed_member, printed_word, printed_character, printed_control}
 use Rattle.json_tree.specs.Spells.{Spells, SpellsValue, SpellsItem, SpellsItems, SpellsMember, SpellsMembers, null, truth, number, word, empty_list, list, empty_object, object, item, first, next, member, first_member, next_member}
 use Rattle.json_tree.specs.Word.{IsHexadecimal, SpellsUnit, SpellsCharacter, itself, escaped, by_unit, SpellsCharacters, none, more, SpellsWord}
-use Rattle.json_tree.specs.Tree.{keys, HasKey, AreDistinct, largest, nesting, nesting_of_member, HasDistinctKeys, HasDistinctKeysThroughout, MemberHasDistinctKeys, HasText, HasTexts, MemberHasTexts, IsProper}
+use Rattle.json_tree.specs.Tree.{keys, HasKey, AreDistinct, largest, nesting, nesting_of_member, HasDistinctKeys, HasDistinctKeysThroughout, MemberHasDistinctKeys, HasValidText, HasValidTexts, MemberHasValidTexts, IsProper}
 use Rattle.json_tree.specs.declared.tree.Json.{Json, Json-F, Number}
 use Rattle.json_tree.specs.declared.tree.Json.TheFolds.{ind-Json, map-Json}
 use Rattle.json_tree.specs.declared.tree.Json.TheViews as trees
@@ -102,14 +102,14 @@ new_key earlier m later d = new_word (keys earlier) (keys later) m.key (subst Ar
 
 -- what is to show of a value and of a member, at each depth
 abbrev ValueSpells : Json → Type 0
-ValueSpells tree = (depth : ℕ) → HasTexts tree → HasDistinctKeysThroughout tree → depth + nesting tree ≤ 64 → SpellsValue depth (printed tree) tree
+ValueSpells tree = (depth : ℕ) → HasValidTexts tree → HasDistinctKeysThroughout tree → depth + nesting tree ≤ 64 → SpellsValue depth (printed tree) tree
 
 abbrev MemberSpells : Member → Type 0
-MemberSpells m = (depth : ℕ) → MemberHasTexts m → MemberHasDistinctKeys m → depth + nesting_of_member m ≤ 64 → SpellsMember depth (printed_member m) m
+MemberSpells m = (depth : ℕ) → MemberHasValidTexts m → MemberHasDistinctKeys m → depth + nesting_of_member m ≤ 64 → SpellsMember depth (printed_member m) m
 
 module _ (depth : ℕ) where
   abbrev FitItems : List Json → Type 0
-  FitItems items = AllByRecursion HasTexts items × AllByRecursion HasDistinctKeysThroughout items × (depth + largest (map nesting items) ≤ 64)
+  FitItems items = AllByRecursion HasValidTexts items × AllByRecursion HasDistinctKeysThroughout items × (depth + largest (map nesting items) ≤ 64)
 
   items_on : (front : List ℕ) (earlier : List Json) (later : List ((t : Json) × ValueSpells t)) → SpellsItems depth front earlier → FitItems (map (λ e. e.0) later)
       → SpellsItems depth (front ++ flat_map (λ y. 44 ∷ y) (map printed (map (λ e. e.0) later))) (earlier ++ map (λ e. e.0) later)
@@ -120,7 +120,7 @@ module _ (depth : ℕ) where
       simp append_assoc at rest
 
   abbrev FitMembers : List Member → Type 0
-  FitMembers members = AllByRecursion MemberHasTexts members × AllByRecursion MemberHasDistinctKeys members × (depth + largest (map nesting_of_member members) ≤ 64)
+  FitMembers members = AllByRecursion MemberHasValidTexts members × AllByRecursion MemberHasDistinctKeys members × (depth + largest (map nesting_of_member members) ≤ 64)
 
   members_on : (front : List ℕ) (earlier : List Member) (later : List ((m : Member) × MemberSpells m)) → SpellsMembers depth front earlier → FitMembers (map (λ e. e.0) later)
       → AreDistinct (keys (earlier ++ map (λ e. e.0) later))
@@ -137,7 +137,7 @@ list_spells [] depth t d n = empty_list [] (let e = nesting-List [] in omega ari
 list_spells (e ∷ items) depth t d n =
     let all = e.0 ∷ map (λ e. e.0) items in
     let fit : depth + suc (largest (map nesting all)) ≤ 64 = subst (λ k. depth + k ≤ 64) (nesting-List all) n in
-    let texts = every_items HasText (λ m. IsUtf8 m.key) all t in
+    let texts = every_items HasValidText (λ m. IsUtf8 m.key) all t in
     let distinct = every_items HasDistinctKeys (λ m. Unit {0}) all d in
     let first_item = first {depth = suc depth} e.0 (bare (suc depth) (printed e.0) e.0 (e.1 (suc depth) texts.0 distinct.0 (omega (arith, fit)))) refl in
     let inner = items_on (suc depth) (printed e.0) (e.0 ∷ []) items first_item (texts.1, distinct.1, omega (arith, fit)) in
@@ -149,7 +149,7 @@ object_spells [] depth t d n = empty_object [] (let e = nesting-Object [] in ome
 object_spells (e ∷ members) depth t d n =
     let all = e.0 ∷ map (λ e. e.0) members in
     let fit : depth + suc (largest (map nesting_of_member all)) ≤ 64 = subst (λ k. depth + k ≤ 64) (nesting-Object all) n in
-    let texts = every_members HasText (λ m. IsUtf8 m.key) all t in
+    let texts = every_members HasValidText (λ m. IsUtf8 m.key) all t in
     let distinct = every_members HasDistinctKeys (λ m. Unit {0}) all d in
     let one = first_member {depth = suc depth} e.0 (e.1 (suc depth) texts.0 distinct.0 (omega (arith, fit))) refl in
     let inner = members_on (suc depth) (printed_member e.0) (e.0 ∷ []) members one (texts.1, distinct.1, omega (arith, fit)) (every_keys HasDistinctKeys (λ m. Unit {0}) all d) in
@@ -158,8 +158,8 @@ object_spells (e ∷ members) depth t d n =
 
 member_spells : (m : Member) → ValueSpells m.value → MemberSpells m
 member_spells m v depth t d n =
-    let key = every_key HasText (λ m. IsUtf8 m.key) m t in
-    let value = v depth (every_value HasText (λ m. IsUtf8 m.key) m t) (every_value HasDistinctKeys (λ m. Unit {0}) m d) (subst (λ k. depth + k ≤ 64) (nesting_of_member-is m) n) in
+    let key = every_key HasValidText (λ m. IsUtf8 m.key) m t in
+    let value = v depth (every_value HasValidText (λ m. IsUtf8 m.key) m t) (every_value HasDistinctKeys (λ m. Unit {0}) m d) (subst (λ k. depth + k ≤ 64) (nesting_of_member-is m) n) in
     member [] (printed_word m.key) [] (printed m.value) tt (spells_word m.key key) tt (bare depth (printed m.value) m.value value)
     (printed_member-is m ∙ simp append_assoc)
 
@@ -169,10 +169,10 @@ layer_spells layers.Null = subst ValueSpells (sym trees.rolls-Null) (λ depth t 
 layer_spells (layers.Truth is) = subst ValueSpells (sym (trees.rolls-Truth is)) (λ depth t d n. truth is (printed-Truth is) refl)
 layer_spells (layers.Number text) = subst ValueSpells (sym (trees.rolls-Number text)) (λ depth t d n.
     let same = printed-Number text in
-    number (subst IsNumber (sym same) (every_number HasText (λ m. IsUtf8 m.key) text t)) (ap Number (sym same)))
+    number (subst IsNumber (sym same) (every_number HasValidText (λ m. IsUtf8 m.key) text t)) (ap Number (sym same)))
 layer_spells (layers.Word w) = subst ValueSpells (sym (trees.rolls-Word w)) (λ depth t d n.
     let same = printed-Word w in
-    word w (subst (λ text. SpellsWord text w) (sym same) (spells_word w (every_word HasText (λ m. IsUtf8 m.key) w t))) refl)
+    word w (subst (λ text. SpellsWord text w) (sym same) (spells_word w (every_word HasValidText (λ m. IsUtf8 m.key) w t))) refl)
 layer_spells (layers.List items) = subst ValueSpells (sym (trees.rolls-List (map (λ e. e.0) items))) (list_spells items)
 layer_spells (layers.Object members) = subst ValueSpells (sym (trees.rolls-Object (map (λ e. e.0) members))) (object_spells members)
 
@@ -181,5 +181,5 @@ value_spells = ind-Json ValueSpells MemberSpells
     (λ x y is. subst (λ x. ValueSpells (trees.roll-Json x)) is (layer_spells y))
     (λ x y is. subst (λ x. MemberSpells (trees.roll-Member x)) is (member_spells (record { key = y.key; value = y.value.0 }) y.value.1))
 
-pub printed_spells : (tree : Json) → HasTexts tree → IsProper tree → Spells (printed tree) tree
+pub printed_spells : (tree : Json) → HasValidTexts tree → IsProper tree → Spells (printed tree) tree
 printed_spells tree t p = bare 0 (printed tree) tree (value_spells tree 0 t p.distinct (omega (arith, p.nested)))

@@ -11,7 +11,7 @@ use Rattle.json_tree.specs.declared.access.Step.TheVariants.{Key, Place}
 abbrev pub value_of : List Member → List ℕ → Option Json
 value_of members key = option_map (λ m. m.value) (find (λ m. bytes_eq m.key key) members)
 
--- the element or the member that the step names, if there is one
+-- the element, or the value of the member, that the step names, if there is one
 abbrev pub value_in : Json-F Json Member → Step → Option Json
 value_in (layers.Object members) (Key key) = value_of members key.now
 value_in (layers.List items) (Place place) = slice_get items place

@@ -57,17 +57,17 @@ abbrev pub IsProper : Json → Type 0
 IsProper tree = IsProperWithin 64 tree
 
 -- the text of a number spells one, and a word is UTF-8
-abbrev pub HasText : Json-F Json Member → Type 0
-HasText (layers.Number text) = IsNumber text
-HasText (layers.Word word) = IsUtf8 word
-HasText layer = Unit {0}
+abbrev pub HasValidText : Json-F Json Member → Type 0
+HasValidText (layers.Number text) = IsNumber text
+HasValidText (layers.Word word) = IsUtf8 word
+HasValidText layer = Unit {0}
 
 -- all texts in the tree are so, as their types say of each tree that a program holds
-abbrev pub HasTexts : Json → Type 0
-HasTexts tree = every-Json HasText (λ m. IsUtf8 m.key) tree
+abbrev pub HasValidTexts : Json → Type 0
+HasValidTexts tree = every-Json HasValidText (λ m. IsUtf8 m.key) tree
 
-abbrev pub MemberHasTexts : Member → Type 0
-MemberHasTexts m = every-Member HasText (λ m. IsUtf8 m.key) m
+abbrev pub MemberHasValidTexts : Member → Type 0
+MemberHasValidTexts m = every-Member HasValidText (λ m. IsUtf8 m.key) m
 
 -- A list has at most so many elements, an object at most so many members, and the text of a number and a word at most so
 -- many bytes.

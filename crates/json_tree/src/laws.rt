@@ -2,7 +2,7 @@ ghost use Rattle.std.specs.Prelude.{◌↔◌, ℕ, List, length, IsTrue};
 ghost use Rattle.json_tree.specs.Number.{IsNumber, BeginsNumber};
 ghost use Rattle.json_tree.specs.Scan.{is_number, begins_number};
 ghost use Rattle.json_tree.specs.Spells.{Spells};
-ghost use Rattle.json_tree.specs.Tree.{HasTexts, HasLengthsUpTo, IsProper};
+ghost use Rattle.json_tree.specs.Tree.{HasValidTexts, HasLengthsUpTo, IsProper};
 ghost use Rattle.json_tree.specs.declared.tree.Json.{Json};
 
 /// The tests of number texts, byte by byte, are right.
@@ -15,6 +15,6 @@ pub fn number_tests()
 /// is longer than the text: it has no more elements, members or bytes than the text has bytes.
 pub fn spelled_trees_are_proper()
     ensures proper { (text : List ℕ) (tree : Json) → Spells text tree → IsProper tree }
-    ensures texts { (text : List ℕ) (tree : Json) → Spells text tree → HasTexts tree }
+    ensures texts { (text : List ℕ) (tree : Json) → Spells text tree → HasValidTexts tree }
     ensures lengths { (text : List ℕ) (tree : Json) → Spells text tree → HasLengthsUpTo (length text) tree }
 {}

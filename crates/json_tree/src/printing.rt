@@ -3,7 +3,7 @@ ghost use Rattle.std.specs.Char.{digit_char};
 ghost use Rattle.std.specs.List.{AllByRecursion, flat_map, join_with_byte};
 ghost use Rattle.std.specs.Str.{chars};
 ghost use Rattle.json_tree.specs.Spells.{Spells};
-ghost use Rattle.json_tree.specs.Tree.{HasTexts, MemberHasTexts, IsProper};
+ghost use Rattle.json_tree.specs.Tree.{HasValidTexts, MemberHasValidTexts, IsProper};
 ghost use Rattle.json_tree.specs.declared.tree.Json.{Json};
 ghost use Rattle.json_tree.specs.Printed.{printed, printed_member, printed_word, printed_character, printed_control, comma_before};
 
@@ -15,7 +15,7 @@ use std::alloc::{AllocError, Global};
 pub fn print(alloc: Global, tree: &Json) -> Result<Text, AllocError>
     ensures printed { IfOk result (λ text. text ≡ printed tree.now) }
     ensures spells { IfOk result (λ text. IsProper tree.now → Spells text tree.now) }
-    ensures texts { OnOk result (HasTexts tree.now) }
+    ensures texts { OnOk result (HasValidTexts tree.now) }
 {
     let mut out = String::new(alloc);
     put_value(&mut out, tree)?;
@@ -24,13 +24,13 @@ pub fn print(alloc: Global, tree: &Json) -> Result<Text, AllocError>
 
 /// The printed form of a proper tree spells that tree.
 pub fn printed_form_spells()
-    ensures { (tree : Json) → HasTexts tree → IsProper tree → Spells (printed tree) tree }
+    ensures { (tree : Json) → HasValidTexts tree → IsProper tree → Spells (printed tree) tree }
 {}
 
 #[cycle(printing)]
 fn put_value(out: &mut String, tree: &Json) -> Result<(), AllocError>
     ensures printed { OnOk result (string_bytes out.new ≡ string_bytes out.old ++ printed tree.now) }
-    ensures texts { OnOk result (HasTexts tree.now) }
+    ensures texts { OnOk result (HasValidTexts tree.now) }
 {
     match tree {
         Json::Null => out.push_str("null"),
@@ -55,7 +55,7 @@ fn put_value(out: &mut String, tree: &Json) -> Result<(), AllocError>
 fn put_items(out: &mut String, items: &[Json]) -> Result<(), AllocError>
     ensures printed { OnOk result
         (string_bytes out.new ≡ string_bytes out.old ++ join_with_byte 44 (map printed items.now)) }
-    ensures texts { OnOk result (AllByRecursion HasTexts items.now) }
+    ensures texts { OnOk result (AllByRecursion HasValidTexts items.now) }
 {
     for (place, item) in items.iter().enumerate() {
         put_comma(out, place)?;
@@ -68,7 +68,7 @@ fn put_items(out: &mut String, items: &[Json]) -> Result<(), AllocError>
 fn put_members(out: &mut String, members: &[Member]) -> Result<(), AllocError>
     ensures printed { OnOk result
         (string_bytes out.new ≡ string_bytes out.old ++ join_with_byte 44 (map printed_member members.now)) }
-    ensures texts { OnOk result (AllByRecursion MemberHasTexts members.now) }
+    ensures texts { OnOk result (AllByRecursion MemberHasValidTexts members.now) }
 {
     for (place, member) in members.iter().enumerate() {
         put_comma(out, place)?;
@@ -80,7 +80,7 @@ fn put_members(out: &mut String, members: &[Member]) -> Result<(), AllocError>
 #[cycle(printing)]
 fn put_member(out: &mut String, member: &Member) -> Result<(), AllocError>
     ensures printed { OnOk result (string_bytes out.new ≡ string_bytes out.old ++ printed_member member.now) }
-    ensures texts { OnOk result (MemberHasTexts member.now) }
+    ensures texts { OnOk result (MemberHasValidTexts member.now) }
 {
     put_word(out, &member.key)?;
     out.push(':')?;
