@@ -1,5 +1,5 @@
 -- From what a command makes of the bytes to the outcome of words and bytes.
-use Rattle.std.proofs.Common.{◌≡◌, ◌⊎◌, ℕ, ◌≤◌, ◌<◌, arith, None, Some, List, length, Result, Ok, Err, inl, inr, refl, subst, IfSome}
+use Rattle.std.proofs.Common.{◌≡◌, ◌⊎◌, ℕ, ◌≤◌, ◌<◌, arith, None, Some, List, [], length, Result, Ok, Err, inl, inr, refl, subst, IfSome}
 use Rattle.std.specs.declared.option.Option.{Option}
 use Rattle.fold_base.specs.declared.outside.TheConstants.{MOST_BYTES}
 use Rattle.fold_base.specs.declared.pieces.ReadFault.{ReadFault}
@@ -31,13 +31,19 @@ follows_command words command left Taken r plain all does bytes (inl told) =
     inr (follows_then _ _ _ command plain r (follows_then _ _ _ bytes (taken.1, refl) r (does bytes taken.0)))
 
 -- what is so of the bytes left where they are told, and of some bytes where they aren't
-pub of_some : (left : Option (List ℕ)) (P : List ℕ → Type 0) → ((bytes : List ℕ) → left ≡ Some bytes → P bytes) → (bytes : List ℕ) → (left ≡ None → P bytes) → (bytes : List ℕ) × AreLeft left bytes × P bytes
+of_some : (left : Option (List ℕ)) (P : List ℕ → Type 0) → ((bytes : List ℕ) → left ≡ Some bytes → P bytes) → (bytes : List ℕ) → (left ≡ None → P bytes) → (bytes : List ℕ) × AreLeft left bytes × P bytes
 of_some None P told bytes untold = (bytes, tt, untold refl)
 of_some (Some left) P told bytes untold = (left, refl, told left refl)
 
 -- refused words, of whatever bytes
-pub follows_refused : (words : List (List ℕ)) (cause : WordsCause) → AreRefused words (Words cause) → (bytes : List ℕ) → Follows (IsOutcome words bytes) (Err (Words cause))
+follows_refused : (words : List (List ℕ)) (cause : WordsCause) → AreRefused words (Words cause) → (bytes : List ℕ) → Follows (IsOutcome words bytes) (Err (Words cause))
 follows_refused words cause refused bytes = inr (tt, inl (refused, refl))
+
+pub refused_some : (words : List (List ℕ)) (left : Option (List ℕ)) (cause : WordsCause) → AreRefused words (Words cause)
+    → (bytes : List ℕ) × AreLeft left bytes × (let r : Result Output Status = Err (Words cause) in (r ≡ Err Read) ⊎ Follows (IsOutcome words bytes) r)
+refused_some words left cause refused =
+    of_some left (λ bytes. let r : Result Output Status = Err (Words cause) in (r ≡ Err Read) ⊎ Follows (IsOutcome words bytes) r)
+    (λ bytes told. inr (follows_refused words cause refused bytes)) [] (λ untold. inr (follows_refused words cause refused []))
 
 -- a command whose bytes can't be had whole
 follows_unread : (words : List (List ℕ)) (command : Command) → AreWordsOf words command → (fault : ReadFault) (bytes : List ℕ) → (fault ≡ read.TooLong → MOST_BYTES < length bytes)

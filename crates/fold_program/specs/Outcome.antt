@@ -11,11 +11,11 @@ use Rattle.json_tree.specs.Printed as json_form
 use Rattle.json_tree.specs.Spells.{Spells}
 use Rattle.json_read.specs.Causes as json
 use Rattle.json_read.specs.declared.fault.JsonFault.{JsonFault}
-use Rattle.fold_program.specs.Status.{IsAnswer}
+use Rattle.fold_program.specs.Status.{IsAnswer, IsFailure}
 use Rattle.fold_program.specs.Steps.{Outcome, Then, Answers}
 use Rattle.fold_program.specs.Words.{AreWordsOf, HaveNoCommand, AreRefused}
 use Rattle.fold_program.specs.declared.status.Status.{Status}
-use Rattle.fold_program.specs.declared.status.Status.TheVariants.{Done, Text, Limit}
+use Rattle.fold_program.specs.declared.status.Status.TheVariants.{Done, Text, Write, Limit}
 use Rattle.fold_program.specs.declared.status.TextFault.TheVariants as faults
 use Rattle.fold_program.specs.declared.status.Limit.TheVariants.{TooLong}
 use Rattle.fold_program.specs.declared.words.Command.{Command}
@@ -72,6 +72,12 @@ IsOutcomeWritten words bytes before after status = (text : List ℕ) × IsOutcom
 abbrev pub IsOutcomeCutShort : List (List ℕ) → List ℕ → Option (List ℕ) → Option (List ℕ) → Type 0
 IsOutcomeCutShort words bytes before after =
     (due : Status) × (text : List ℕ) × IsAnswer due × IsOutcome words bytes due text × GainsPart before after text
+
+-- Unless the outside or the memory failed, the status is the outcome and its text was written; where writing failed, a proper
+-- prefix of it was.
+abbrev pub KeepsToOutcome : List (List ℕ) → List ℕ → Option (List ℕ) → Option (List ℕ) → Status → Type 0
+KeepsToOutcome words bytes before after status =
+    (IsFailure status ⊎ IsOutcomeWritten words bytes before after status) × (status ≡ Write → IsOutcomeCutShort words bytes before after)
 
 -- Words and bytes have an outcome.
 abbrev pub HaveOutcome : List (List ℕ) → List ℕ → Type 0

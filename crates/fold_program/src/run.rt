@@ -5,7 +5,7 @@ ghost use Rattle.fold_program.specs.Status.{IsAnswer, IsFailure, IsRefusal, of_r
 ghost use Rattle.fold_program.specs.Steps.{Follows};
 ghost use Rattle.fold_program.specs.Words.{texts, HaveNoCommand};
 ghost use Rattle.fold_program.specs.Notes.{GainsFront, note_line};
-ghost use Rattle.fold_program.specs.Outcome.{IsOutcome, AreInput, AreLeft, IsOutcomeWritten, IsOutcomeCutShort, HaveOutcome, HaveAtMostOneOutcome};
+ghost use Rattle.fold_program.specs.Outcome.{IsOutcome, AreInput, AreLeft, IsOutcomeWritten, IsOutcomeCutShort, KeepsToOutcome, HaveOutcome, HaveAtMostOneOutcome};
 ghost use Rattle.fold_program.specs.Taken.{Takes, TakesAll};
 
 use crate::notes::note;
@@ -37,12 +37,9 @@ pub fn run<S: Source, T: Sink, E: Sink>(
         IsFailure result
         ⊎ IsOutcomeWritten (texts words.now) bytes (T.written sink.old) (T.written sink.new) result }
 
-    // Also where the source doesn't tell its bytes, it was so of some bytes.
+    // Also where the source doesn't tell its bytes, this and the next are so of some bytes.
     ensures some { (bytes : List ℕ) × AreLeft (S.left source.old) bytes
-        × (IsFailure result
-            ⊎ IsOutcomeWritten (texts words.now) bytes (T.written sink.old) (T.written sink.new) result)
-        × (result ≡ Status.Write →
-            IsOutcomeCutShort (texts words.now) bytes (T.written sink.old) (T.written sink.new)) }
+        × KeepsToOutcome (texts words.now) bytes (T.written sink.old) (T.written sink.new) result }
 
     // Where writing fails, a text was due, and a proper prefix of it was written.
     ensures broken { result ≡ Status.Write →
@@ -121,10 +118,7 @@ fn perform<S: Source, T: Sink>(
         IsFailure result
         ⊎ IsOutcomeWritten (texts words.now) bytes (T.written sink.old) (T.written sink.new) result }
     ensures some { (bytes : List ℕ) × AreLeft (S.left source.old) bytes
-        × (IsFailure result
-            ⊎ IsOutcomeWritten (texts words.now) bytes (T.written sink.old) (T.written sink.new) result)
-        × (result ≡ Status.Write →
-            IsOutcomeCutShort (texts words.now) bytes (T.written sink.old) (T.written sink.new)) }
+        × KeepsToOutcome (texts words.now) bytes (T.written sink.old) (T.written sink.new) result }
     ensures broken { result ≡ Status.Write →
         (bytes : List ℕ) → AreInput (texts words.now) (S.left source.old) bytes →
         IsOutcomeCutShort (texts words.now) bytes (T.written sink.old) (T.written sink.new) }

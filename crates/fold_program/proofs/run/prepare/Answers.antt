@@ -1,11 +1,11 @@
-use Rattle.std.proofs.Common.{◌≡◌, [], Err, ap, inr, rules, subst, sym}
+use Rattle.std.proofs.Common.{◌≡◌, Err, ap, rules, subst, sym}
 use Rattle.json_read.specs.Reader.{HasRead}
 use Rattle.fold_program.specs.Words.{texts, AreWordsOf}
 use Rattle.fold_program.specs.Steps.{Follows}
 use Rattle.fold_program.specs.Outcome.{Does}
 use Rattle.fold_program.specs.declared.words.Command.TheVariants.{Show}
 use Rattle.fold_program.specs.declared.words.Format.TheVariants.{Fold, Cp}
-use Rattle.fold_program.proofs.Following.{follows_command, follows_some, follows_refused, unread_some, of_some}
+use Rattle.fold_program.proofs.Following.{follows_command, follows_some, refused_some, unread_some}
 use Rattle.std.proofs.lemmas.Result.{err_from_is_err_and}
 use Rattle.fold_program.proofs.run.prepare.Goals as goal
 
@@ -25,9 +25,8 @@ returns-in_ok-bytes-in-Cp-clause-outcome g c =
 
 pub returns-in_err-format-clause-some : goal.returns-in_err-format-clause-some
 returns-in_err-format-clause-some g c =
-    let words = texts c.args.words.now in
     let p = err_from_is_err_and c.from_residual.result c.from_residual.ensures.1 in
-    rw (p.1, p.2) (of_some _ _ (λ bytes told. inr (follows_refused words _ c.in_err-format.ensures.err bytes)) [] (λ untold. inr (follows_refused words _ c.in_err-format.ensures.err [])))
+    rw (p.1, p.2) (refused_some (texts c.args.words.now) (g.S.Source.left c.args.source.now) _ c.in_err-format.ensures.err)
 
 pub returns-in_err-reader-in-Fold-clause-some : goal.returns-in_err-reader-in-Fold-clause-some
 returns-in_err-reader-in-Fold-clause-some g c =
