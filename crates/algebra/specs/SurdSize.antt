@@ -15,7 +15,7 @@ surd_size m x = unsigned_abs x.a + m * unsigned_abs x.b
 abbrev pub larger_part : Surd ℤ → ℕ
 larger_part x = max (unsigned_abs x.a) (unsigned_abs x.b)
 
--- which of two crossings on one line lies further right is computed within 128 bits, where no part of a coordinate is larger than 2^22
+-- the last difference in comparing two crossings on one line fits 128 bits, where no part of a coordinate is larger than 2^22
 abbrev pub ComparesIn128Bits : ℕ → Type 0
 ComparesIn128Bits k =
     (a b c d e f : Point (Surd ℤ)) → IsWithin larger_part (2 ^ 22) a → IsWithin larger_part (2 ^ 22) b → IsWithin larger_part (2 ^ 22) c

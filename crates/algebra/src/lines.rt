@@ -59,8 +59,8 @@ pub fn size_laws()
     ensures surd { (k m : ℕ) → k ≤ m * m → IsSize (surd_ops int_ops (pos k)) (surd_size m) }
 {}
 
-/// Which of two crossings on one line lies further right is computed within 128 bits, where the coordinates are numbers
-/// a+b√2, or a+b√3, with whole a and b of at most 2^22.
+/// The last difference in comparing two crossings on one line fits 128 bits, where the coordinates are numbers a+b√2, or
+/// a+b√3, with whole a and b of at most 2^22.
 pub fn comparison_fits()
     ensures root_two { ComparesIn128Bits 2 }
     ensures root_three { ComparesIn128Bits 3 }

@@ -64,11 +64,11 @@ abbrev pub AreLeft : Option (List ℕ) → List ℕ → Type 0
 AreLeft None bytes = Unit {0}
 AreLeft (Some left) bytes = bytes ≡ left
 
--- The status is the outcome, and its text was written and nothing else.
+-- The status is the outcome, and, where the sink tells its bytes, its text was written and nothing else.
 abbrev pub IsOutcomeWritten : List (List ℕ) → List ℕ → Option (List ℕ) → Option (List ℕ) → Status → Type 0
 IsOutcomeWritten words bytes before after status = (text : List ℕ) × IsOutcome words bytes status text × Gains before after text
 
--- A text was due, and a proper prefix of it was written.
+-- A text was due, and, where the sink tells its bytes, a proper prefix of it was written.
 abbrev pub IsOutcomeCutShort : List (List ℕ) → List ℕ → Option (List ℕ) → Option (List ℕ) → Type 0
 IsOutcomeCutShort words bytes before after =
     (due : Status) × (text : List ℕ) × IsAnswer due × IsOutcome words bytes due text × GainsPart before after text

@@ -31,13 +31,13 @@ pub fn run<S: Source, T: Sink, E: Sink>(
     sink: &mut T,
     notes: &mut E,
 ) -> Status
-    // The status is the outcome of the words and all the bytes, also where a count rose, and its
-    // text was written and nothing else.
+    // Unless reading, writing or memory failed, the status is the outcome of the words and all the
+    // bytes, also where a count rose, and its text was written and nothing else.
     ensures outcome { (bytes : List ℕ) → AreInput (texts words.now) (S.left source.old) bytes →
         IsFailure result
         ⊎ IsOutcomeWritten (texts words.now) bytes (T.written sink.old) (T.written sink.new) result }
 
-    // Also where the source doesn't tell its bytes, this and the next are so of some bytes.
+    // Also where the source doesn't tell its bytes, `outcome` and `broken` are so of some bytes.
     ensures some { (bytes : List ℕ) × AreLeft (S.left source.old) bytes
         × KeepsToOutcome (texts words.now) bytes (T.written sink.old) (T.written sink.new) result }
 
@@ -69,7 +69,8 @@ pub fn run<S: Source, T: Sink, E: Sink>(
     ensures noted_whole { ¬ (Rose (E.faults notes.old) (E.faults notes.new)) → (notes.new ≡ notes.old)
         ⊎ Gains (E.written notes.old) (E.written notes.new) (note_line result) }
 
-    // Where nothing failed outside, the status is the outcome, or memory is wanting.
+    // Where nothing failed outside and the source tells its bytes, the status is the outcome, or
+    // memory is wanting.
     ensures complete { ¬ (Rose (S.faults source.old) (S.faults source.new)) →
         ¬ (Rose (T.faults sink.old) (T.faults sink.new)) →
         (bytes : List ℕ) → AreInput (texts words.now) (S.left source.old) bytes →

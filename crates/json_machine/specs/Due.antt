@@ -1,4 +1,5 @@
--- The texts after which a value or a key is due inside of the lists and objects that are open.
+-- The texts after which a value or a key is due inside of the lists and objects that are open. Right after `[` a value is due
+-- and right after `{` a key, though the end may come there instead.
 use Rattle.std.specs.Prelude.{◌≡◌, ◌⊎◌, ℕ, suc, ◌<◌, List, [], ◌∷◌, ◌++◌, length}
 use Rattle.json_tree.specs.Blank.{AreBlanks}
 use Rattle.json_tree.specs.Spells.{SpellsItems, SpellsMembers}
@@ -37,8 +38,8 @@ abbrev pub MemberValueIsDueInside : ℕ → List Member → List ℕ → List �
 MemberValueIsDueInside depth members key text = (front spelled colon : List ℕ) × (text ≡ front ++ spelled ++ colon)
     × MemberIsDueInside depth members front × SpellsNewKey members spelled key × IsColon colon
 
--- After a text of which `IsDue` holds, this byte opened a list or an object, fewer than 64 deep, and of the text inside of it so
--- far `IsInside` holds.
+-- After a text of which `IsDue` holds, this byte opened a list or an object inside of fewer than 64 others, and of the text
+-- inside of it so far `IsInside` holds.
 abbrev pub Opened : (List ℕ → Type 0) → ℕ → ℕ → (List ℕ → Type 0) → List ℕ → Type 0
 Opened IsDue depth opening IsInside text = (before inside : List ℕ) × (text ≡ before ++ (opening ∷ []) ++ inside)
     × IsDue before × (depth < 64) × IsInside inside
