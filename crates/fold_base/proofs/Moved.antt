@@ -1,4 +1,4 @@
--- Calls one after another.
+-- calls one after another
 use Rattle.std.proofs.Common.{◌≡◌, ℕ, ◌+◌, ◌≤◌, List, ◌++◌, length, take, drop, None, Some, sym, ◌∙◌, ap, append_assoc}
 use Rattle.std.specs.declared.option.Option.{Option}
 use Rattle.std.proofs.lemmas.List.{take_at, drop-drop, take-append-drop, length-take-le}
@@ -20,7 +20,7 @@ gains_more (Some a) None c x y p q = absurd p
 gains_more (Some a) (Some b) None x y p q = absurd q
 gains_more (Some a) (Some b) (Some c) x y p q = q ∙ ap (λ z. z ++ y) p ∙ append_assoc a x y
 
--- The front of what is left, copied to the front of a room.
+-- the front of what is left, copied to the front of a room
 pub copied_front : (bytes room copied : List ℕ) (at n : ℕ) → n ≤ length (drop at bytes) → copied ≡ take n (drop at bytes) → drop at bytes ≡ take n (copied ++ drop n room) ++ drop (at + n) bytes
 copied_front bytes room copied at n h e =
     let long : length copied ≡ n = ap length e ∙ length-take-le n (drop at bytes) h in

@@ -1,9 +1,9 @@
--- The letters of the FOLD format.
+-- the letters of the FOLD format
 use Rattle.std.specs.Prelude.{ℕ}
 use Rattle.fold_base.specs.declared.letter.Letter.{Letter}
 use Rattle.fold_base.specs.declared.letter.Letter.TheVariants.{Border, Mountain, Valley, Flat, Unassigned, Cut, Join}
 
--- The byte that stands for a letter: B, M, V, F, U, C or J.
+-- the byte that stands for a letter: B, M, V, F, U, C or J
 abbrev pub spelling : Letter → ℕ
 spelling Border = 66
 spelling Mountain = 77

@@ -1,4 +1,4 @@
--- How often a reader and a writer have failed.
+-- how often a reader and a writer have failed
 use Rattle.std.specs.Prelude.{ℕ}
 use Rattle.fold_base.specs.declared.streams.ReadSource.{ReadSource}
 use Rattle.fold_base.specs.declared.streams.WriteSink.{WriteSink}

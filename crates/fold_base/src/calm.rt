@@ -1,6 +1,6 @@
 // A source and a sink that never fail.
 ghost use Rattle.std.specs.Prelude.{◌≡◌, ◌≤◌, ◌<◌, None, Some, Ok, length, min, max, IfOk};
-ghost use Rattle.fold_base.specs.Outside.{HasCause, Gives, Gains, MarksEnd, moved};
+ghost use Rattle.fold_base.specs.Outside.{HasCause, Gives, Gains, MarksEnd, bytes_moved};
 
 use crate::remaining::Remaining;
 use crate::{Failed, List, Sink, Source};
@@ -38,7 +38,7 @@ impl Source for CalmSource {
     fn take(&mut self, room: &mut [u8]) -> Result<usize, Failed>
         requires { 0 < length room.old }
         ensures within { IfOk result (λ n. n ≤ length room.new) }
-        ensures bytes { Gives (Some (calm_left self.old)) (Some (calm_left self.new)) (moved result room.new) }
+        ensures bytes { Gives (Some (calm_left self.old)) (Some (calm_left self.new)) (bytes_moved result room.new) }
         ensures end { IfOk result (MarksEnd (Some (calm_left self.old))) }
         ensures cause { HasCause 0 0 result }
 
@@ -69,7 +69,7 @@ impl Sink for CalmSink {
         requires { 0 < length bytes.now }
         ensures some { IfOk result (λ n. 0 < n) }
         ensures within { IfOk result (λ n. n ≤ length bytes.now) }
-        ensures bytes { Gains None None (moved result bytes.now) }
+        ensures bytes { Gains None None (bytes_moved result bytes.now) }
         ensures cause { HasCause 0 0 result }
         ensures whole { result ≡ Ok (length bytes.now) }
     {

@@ -46,6 +46,19 @@ impl<T> List<T> {
         List { items }
     }
 
+    pub fn into_vec(self) -> Vec<T>
+        ensures { result.items ≡ self }
+    {
+        self.items
+    }
+
+    /// Gives back the memory of which the list has no need, where that can be done.
+    pub fn fit(&mut self)
+        ensures { self.new ≡ self.old }
+    {
+        self.items.shrink_to_fit();
+    }
+
     /// Appends the item, or gives it back and changes nothing.
     pub fn push(&mut self, item: T) -> Result<(), AllocFailed<T>>
         ensures ok { OnOk result (self.new ≡ self.old ++ item ∷ []) }
@@ -134,6 +147,8 @@ mod tests {
         list.extend_from_slice(b"de")?;
         list.take_piece(b"f")?;
         assert_eq!(rt; list.as_slice(), b"abcdef".as_slice());
+        list.fit();
+        assert_eq!(rt; list.into_vec().as_slice(), b"abcdef".as_slice());
         let empty: List<u8> = List::with_room(alloc, 3)?;
         assert_eq!(rt; empty.len(), 0);
         Ok(())

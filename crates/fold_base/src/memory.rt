@@ -1,6 +1,6 @@
 // A source and a sink in memory, whose calls fail by a plan.
 ghost use Rattle.std.specs.Prelude.{◌≡◌, ◌↔◌, ◌⊎◌, ◌+◌, ◌-◌, ◌≤◌, ◌<◌, [], List as Items, ℕ, length, take, min, max, vec_len, vec_capacity, IsErr, is_ok, IfOk, Some};
-ghost use Rattle.fold_base.specs.Outside.{HasCause, Gives, Gains, MarksEnd, moved};
+ghost use Rattle.fold_base.specs.Outside.{HasCause, Gives, Gains, MarksEnd, bytes_moved};
 
 use crate::plan::Plan;
 use crate::remaining::Remaining;
@@ -46,7 +46,7 @@ impl Source for MemorySource {
     fn take(&mut self, room: &mut [u8]) -> Result<usize, Failed>
         requires { 0 < length room.old }
         ensures within { IfOk result (λ n. n ≤ length room.new) }
-        ensures bytes { Gives (Some (source_left self.old)) (Some (source_left self.new)) (moved result room.new) }
+        ensures bytes { Gives (Some (source_left self.old)) (Some (source_left self.new)) (bytes_moved result room.new) }
         ensures end { IfOk result (MarksEnd (Some (source_left self.old))) }
         ensures cause { HasCause (source_plan self.old).faults (source_plan self.new).faults result }
 
@@ -119,13 +119,13 @@ impl Sink for MemorySink {
         requires { 0 < length bytes.now }
         ensures some { IfOk result (λ n. 0 < n) }
         ensures within { IfOk result (λ n. n ≤ length bytes.now) }
-        ensures bytes { Gains (Some (sink_bytes self.old)) (Some (sink_bytes self.new)) (moved result bytes.now) }
+        ensures bytes { Gains (Some (sink_bytes self.old)) (Some (sink_bytes self.new)) (bytes_moved result bytes.now) }
         ensures cause { HasCause (sink_plan self.old).faults (sink_plan self.new).faults result }
 
         // It fails exactly as planned or where no room is left, and else takes as much as it can.
         ensures planned { IsErr result ↔ (FailsNext (sink_plan self.old) ⊎ (sink_room self.old ≡ 0)) }
         ensures amount { IfOk result (λ n. n ≡ min (sink_piece self.old) (min (sink_room self.old) (length bytes.now))) }
-        ensures room { sink_room self.new + length (moved result bytes.now) ≡ sink_room self.old }
+        ensures room { sink_room self.new + length (bytes_moved result bytes.now) ≡ sink_room self.old }
         ensures piece { sink_piece self.new ≡ sink_piece self.old }
         ensures plan { sink_plan self.new ≡ after_call (is_ok result) (sink_plan self.old) }
     {

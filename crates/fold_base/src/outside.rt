@@ -1,15 +1,17 @@
 // What code that is generic over the outside knows of it.
 ghost use Rattle.std.specs.Prelude.{◌≡◌, ◌+◌, ◌≤◌, ◌<◌, ◌++◌, List, ℕ, length, IfOk, OnOk};
 ghost use Rattle.std.specs.declared.option.Option.{Option};
-ghost use Rattle.fold_base.specs.Outside.{HasCause, Gives, Gains, MarksEnd, moved};
+ghost use Rattle.fold_base.specs.Outside.{HasCause, Gives, Gains, MarksEnd, bytes_moved};
 
 use std::alloc::AllocError;
+use thiserror::Error;
 
 /// The most bytes that a text may have.
 pub const MOST_BYTES: u32 = 16_777_216;
 
 /// The outside failed: its count of faults has risen, or stands at the last value of a `u64`.
-#[derive(Clone, Copy, Debug, PartialEq, Eq)]
+#[derive(Clone, Copy, Debug, PartialEq, Eq, Error)]
+#[error("a source or a sink failed")]
 pub struct Failed;
 
 /// Where bytes come from.
@@ -27,7 +29,7 @@ pub trait Source {
     fn take(&mut self, room: &mut [u8]) -> Result<usize, Failed>
         requires { 0 < length room.old }
         ensures within { IfOk result (λ n. n ≤ length room.new) }
-        ensures bytes { Gives (left self.old) (left self.new) (moved result room.new) }
+        ensures bytes { Gives (left self.old) (left self.new) (bytes_moved result room.new) }
         ensures end { IfOk result (MarksEnd (left self.old)) }
         ensures cause { HasCause (faults self.old) (faults self.new) result };
 }
@@ -48,7 +50,7 @@ pub trait Sink {
         requires { 0 < length bytes.now }
         ensures some { IfOk result (λ n. 0 < n) }
         ensures within { IfOk result (λ n. n ≤ length bytes.now) }
-        ensures bytes { Gains (written self.old) (written self.new) (moved result bytes.now) }
+        ensures bytes { Gains (written self.old) (written self.new) (bytes_moved result bytes.now) }
         ensures cause { HasCause (faults self.old) (faults self.new) result };
 }
 

@@ -6,15 +6,19 @@ ghost use Rattle.fold_base.specs.Pieces.{TakesUpTo, TookEach};
 use crate::outside::MOST_BYTES;
 use crate::{Failed, PieceTaker, Sink, Source};
 use std::alloc::AllocError;
+use thiserror::Error;
 
 const ROOM: usize = 4096;
 
 /// Why a source wasn't read to its end.
-#[derive(Clone, Copy, Debug, PartialEq, Eq)]
+#[derive(Clone, Copy, Debug, PartialEq, Eq, Error)]
 pub enum ReadFault {
+    #[error("the source failed")]
     Failed,
     /// It gave more than [`MOST_BYTES`] bytes.
+    #[error("the source gave more than {MOST_BYTES} bytes")]
     TooLong,
+    #[error(transparent)]
     Memory(AllocError),
 }
 

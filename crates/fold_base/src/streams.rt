@@ -3,7 +3,7 @@
 //! This is the trusted edge: nothing is told of the bytes that pass here, so no proof says that
 //! they are the reader's or the writer's.
 ghost use Rattle.std.specs.Prelude.{◌≡◌, ◌≤◌, ◌<◌, None, length, is_ok, IfOk, IfSome};
-ghost use Rattle.fold_base.specs.Outside.{HasCause, Gives, Gains, MarksEnd, moved, count_after};
+ghost use Rattle.fold_base.specs.Outside.{HasCause, Gives, Gains, MarksEnd, bytes_moved, count_after};
 
 use crate::{Failed, Sink, Source};
 use std::io::{Read, Write};
@@ -35,7 +35,7 @@ impl<R: Read> Source for ReadSource<R> {
     fn take(&mut self, room: &mut [u8]) -> Result<usize, Failed>
         requires { 0 < length room.old }
         ensures within { IfOk result (λ n. n ≤ length room.new) }
-        ensures bytes { Gives None None (moved result room.new) }
+        ensures bytes { Gives None None (bytes_moved result room.new) }
         ensures end { IfOk result (MarksEnd None) }
         ensures cause { HasCause (read_faults self.old) (read_faults self.new) result }
         ensures count { read_faults self.new ≡ count_after (is_ok result) (read_faults self.old) }
@@ -90,7 +90,7 @@ impl<W: Write> Sink for WriteSink<W> {
         requires { 0 < length bytes.now }
         ensures some { IfOk result (λ n. 0 < n) }
         ensures within { IfOk result (λ n. n ≤ length bytes.now) }
-        ensures bytes { Gains None None (moved result bytes.now) }
+        ensures bytes { Gains None None (bytes_moved result bytes.now) }
         ensures cause { HasCause (write_faults self.old) (write_faults self.new) result }
         ensures count { write_faults self.new ≡ count_after (is_ok result) (write_faults self.old) }
     {

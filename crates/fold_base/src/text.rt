@@ -1,9 +1,11 @@
-ghost use Rattle.std.specs.Prelude.{◌≡◌, ◌≢◌, IfOk, IsUtf8, string_bytes};
+ghost use Rattle.std.specs.Prelude.{◌≡◌, ◌≢◌, ◌++◌, IfOk, OnOk, OnErr, IsUtf8, encode_utf8, string_bytes};
 ghost use Rattle.std.specs.Str.{IsAscii};
 
 use std::alloc::{AllocError, Global};
 use std::fmt;
+use std::hash::{Hash, Hasher};
 use std::marker::Model;
+use thiserror::Error;
 
 /// A `String` that contracts see as the list of its UTF-8 bytes.
 #[derive(Debug, Drop)]
@@ -12,9 +14,11 @@ pub struct Text {
 }
 
 /// Why bytes make no text.
-#[derive(Clone, Copy, Debug, PartialEq, Eq)]
+#[derive(Clone, Copy, Debug, PartialEq, Eq, Error)]
 pub enum TextMakeFault {
+    #[error("the bytes are no UTF-8")]
     NotUtf8,
+    #[error(transparent)]
     Memory(AllocError),
 }
 
@@ -75,6 +79,14 @@ impl Text {
         self.inner.as_str()
     }
 
+    /// Appends the character, or changes nothing.
+    pub fn push(&mut self, character: char) -> Result<(), AllocError>
+        ensures ok { OnOk result (self.new ≡ self.old ++ encode_utf8 character) }
+        ensures err { OnErr result (self.new ≡ self.old) }
+    {
+        self.inner.push(character)
+    }
+
     pub fn copy(&self, alloc: Global) -> Result<Text, AllocError>
         ensures { IfOk result (λ t. t ≡ self.now) }
     {
@@ -92,10 +104,58 @@ impl fmt::Display for Text {
     }
 }
 
+/// Texts are compared and hashed as their bytes.
+impl PartialEq for Text {
+    ghost use Rattle.std.specs.Str.{bytes_eq};
+    ghost use Rattle.std.specs.Cmp.{partial_equiv_from_equiv};
+    ghost use Rattle.std.specs.Cmp.Lexicographic.{nat_list_eq_equiv};
+
+    ghost eq = { λ a b. bytes_eq a b };
+
+    ghost laws = { partial_equiv_from_equiv nat_list_eq_equiv };
+
+    fn eq(&self, other: &Text) -> bool {
+        self.as_str() == other.as_str()
+    }
+}
+
+impl Eq for Text {
+    ghost use Rattle.std.specs.Cmp.Lexicographic.{nat_list_eq_equiv};
+
+    ghost laws = { nat_list_eq_equiv };
+}
+
+impl Hash for Text {
+    ghost use Rattle.std.proofs.Common.{rules};
+    ghost use Rattle.std.specs.Hash as hashed;
+    ghost use Rattle.std.specs.Cmp.Rules.{hashing};
+
+    ghost hash_input = { λ text. hashed.str text };
+
+    ghost respects_eq = { Prim.search (hashing, rules) };
+
+    fn hash<H: Hasher>(&self, state: &mut H) {
+        self.as_str().hash(state);
+    }
+}
+
 #[cfg(test)]
 mod tests {
     use super::*;
+    use std::collections::HashSet;
     use std::test::Fail;
+
+    #[test]
+    fn is_a_key(rt: HostRuntime) -> Result<(), Fail> {
+        let alloc = rt.alloc();
+        let mut texts = HashSet::new(alloc);
+        for (text, is_new) in [("a", true), ("b", true), ("a", false)] {
+            let mut grown = Text::from_text(alloc, text)?;
+            grown.push('é')?;
+            assert_eq!(rt; texts.insert(grown).ok().ok_or("memory")?, is_new, "{text}");
+        }
+        Ok(())
+    }
 
     #[test]
     fn takes_utf8_alone(rt: HostRuntime) -> Result<(), Fail> {
