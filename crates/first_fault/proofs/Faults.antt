@@ -1,4 +1,4 @@
--- An accepted text has no first fault, and no text has two.
+-- an accepted text has no first fault, and no text has two
 use Rattle.std.proofs.Common.{◌≡◌, ℕ, ◌+◌, ◌<◌, ◌≤◌, List, ◌++◌, take, drop, refl, sym, subst, append_assoc, arith, inl, inr, length-append}
 use Rattle.std.proofs.lemmas.List.{take-append-drop, take-append-le, take-take}
 use Rattle.std.proofs.lemmas.Bool.{cases_lt}

@@ -1,4 +1,4 @@
--- A machine goes from a state over a text to a state.
+-- a machine goes from a state over a text to a state
 use Rattle.std.proofs.Common.{◌≡◌, ℕ, List, [], ◌∷◌, ◌++◌, refl, ◌∙◌, ap, Option, Some}
 use Rattle.first_fault.specs.Machine.{steps}
 use Rattle.first_fault.proofs.Machines.{steps_join, steps_one}

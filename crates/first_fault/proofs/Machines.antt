@@ -1,4 +1,4 @@
--- What the answer of a machine says of a text, where the machine decides a grammar.
+-- what the answer of a machine says of a text, where the machine decides a grammar
 use Rattle.std.proofs.Common.{◌≡◌, ℕ, ◌+◌, ◌<◌, List, [], ◌∷◌, ◌++◌, length, take, get_or, refl, sym, ◌∙◌, ap, subst, append_assoc, arith, Option, Some, None, IsTrue, ◌⊎◌, inl, inr, length-append}
 use Rattle.std.specs.Prelude.{option_and_then, is_some, ◌↔◌}
 use Rattle.std.proofs.lemmas.List.{append-nil, take_more, take_all, take_at}
@@ -92,7 +92,8 @@ module _ {S V : Type 0} (Grammar : List ℕ → V → Type 0) (step : S → ℕ 
             ]) refl
       ]) refl
 
--- What is true of the start, and stays true with each byte, is true of each text and the state that it leads to.
+-- what is true of the start, and stays true with each byte, is true of each text and the state that
+-- it leads to
 module _ {S : Type 0} (step : S → ℕ → Option S) (Leads : List ℕ → S → Type 0) (more : (t : List ℕ) (s : S) (b : ℕ) (next : S) → Leads t s → step s b ≡ Some next → Leads (t ++ b ∷ []) next) where
   leads_on : (u : List ℕ) (s : S) (t : List ℕ) (last : S) → Leads u s → steps step s t ≡ Some last → Leads (u ++ t) last
   leads_on u s [] last l e = let same : s ≡ last = cc in rw append-nil (subst (Leads u) same l)

@@ -39,7 +39,8 @@ Gains (Some before) (Some after) bytes = after ≡ before ++ bytes
 -- a front of the bytes was gained, and not all of them
 abbrev pub GainsPart : Option (List ℕ) → Option (List ℕ) → List ℕ → Type 0
 GainsPart before after bytes =
-    (front : List ℕ) × (rest : List ℕ) × (0 < length rest) × (bytes ≡ front ++ rest) × Gains before after front
+    (front : List ℕ) × (rest : List ℕ) × (0 < length rest) × (bytes ≡ front ++ rest)
+    × Gains before after front
 
 -- no byte is left, where the bytes are told
 abbrev pub IsSpent : Option (List ℕ) → Type 0

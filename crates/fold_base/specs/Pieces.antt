@@ -10,7 +10,8 @@ use Rattle.fold_base.specs.declared.pieces.ReadFault.TheVariants.{Failed, TooLon
 abbrev pub TakesUpTo : Result ℕ ReadFault → List ℕ → List ℕ → Type 0
 TakesUpTo (Ok n) handed rest = (length handed ≡ n) × (n ≤ MOST_BYTES) × (rest ≡ [])
 TakesUpTo (Err Failed) handed rest = (length handed ≤ MOST_BYTES) × (rest ≡ [])
-TakesUpTo (Err TooLong) handed rest = (length handed ≤ MOST_BYTES) × (length handed + length rest ≡ MOST_BYTES + 1)
+TakesUpTo (Err TooLong) handed rest = (length handed ≤ MOST_BYTES)
+    × (length handed + length rest ≡ MOST_BYTES + 1)
 TakesUpTo (Err (Memory e)) handed rest = length handed + length rest ≤ MOST_BYTES
 
 -- the taker took each piece that it was handed

@@ -1,10 +1,10 @@
--- What a loop has put out that puts a comma before each element but the first.
+-- what a loop has put out that puts a comma before each element but the first
 use Rattle.std.proofs.Common.{◌≡◌, ℕ, suc, ◌+◌, ◌<◌, List, [], ◌∷◌, ◌++◌, length, map, take, get_or, refl, sym, ◌∙◌, ap, subst, append_assoc, arith, length-take}
 use Rattle.std.specs.List.{join_with_byte, flat_map, AllByRecursion}
 use Rattle.std.proofs.lemmas.Grind.{flat_map-append}
 use Rattle.std.proofs.lemmas.List.{append-nil, map-append, length-map, take_more}
 use Rattle.std.proofs.lemmas.Bool.Decides.{nat_tests}
-use Rattle.json_tree.specs.Printed.{comma_before}
+use Rattle.json_tree.specs.PrintedForm.{comma_before}
 
 pub joined : (x : List ℕ) (xs : List (List ℕ)) → join_with_byte 44 (x ∷ xs) ≡ x ++ flat_map (λ y. 44 ∷ y) xs
 joined x [] = sym (append-nil x)

@@ -1,7 +1,8 @@
--- What the bytes of numbers are.
-use Rattle.std.proofs.Common.{◌≡◌, ◌≢◌, ℕ, ◌<◌, List, [], ◌∷◌, ◌++◌, refl, arith, ◌⊎◌, inl, inr, Some, IsTrue, Bool, true, false}
+-- what the bytes of numbers are
+use Rattle.std.proofs.Common.{◌≡◌, ◌≢◌, ℕ, zero, suc, ◌<◌, List, [], ◌∷◌, ◌++◌, refl, arith, ◌⊎◌, inl, inr, Some, IsTrue, Bool, true, false}
 use Rattle.std.specs.List.{AllByRecursion}
 use Rattle.std.specs.Char.{IsAsciiDigit}
+use Rattle.std.specs.Str.{IsAscii}
 use Rattle.std.proofs.lemmas.Bool.Decides.{nat_tests}
 use Rattle.json_tree.specs.Number.{AreDigits, IsMinusOrNone, IsInt, AreSomeDigits, IsFraction, IsSignOrNone, IsExponent, IsNumber}
 use Rattle.json_tree.specs.Scan.{at_first_digit, after_int, at_digit, next, begins_number, is_number}
@@ -9,14 +10,14 @@ use Rattle.json_tree.specs.declared.phase.Phase.{Phase}
 use Rattle.json_tree.specs.declared.phase.Phase.TheVariants.{Start, Minus, Zero, Digits, Point, Fraction, Exponent, Sign, ExponentDigits}
 use Rattle.json_tree.proofs.Numbers.{number_test, begins_test}
 
--- no blank, no comma and no closing bracket or brace
+-- ASCII, and no blank, no comma and no closing bracket or brace
 abbrev pub IsPlain : ℕ → Type 0
-IsPlain b = (32 < b) × (b ≢ 44) × (b ≢ 93) × (b ≢ 125)
+IsPlain b = (32 < b) × (b ≢ 44) × (b ≢ 93) × (b ≢ 125) × (b < 128)
 
 plain : (b : ℕ) → (32 < b) × (b ≢ 44) × (b < 93) ⊎ ((b ≡ 101) ⊎ (b ≡ 69)) → IsPlain b
-plain b (inl h) = (h.0, h.1, (λ e. omega arith), (λ e. omega arith))
-plain b (inr (inl e)) = (omega arith, (λ x. omega arith), (λ x. omega arith), (λ x. omega arith))
-plain b (inr (inr e)) = (omega arith, (λ x. omega arith), (λ x. omega arith), (λ x. omega arith))
+plain b (inl h) = (h.0, h.1, (λ e. omega arith), (λ e. omega arith), omega arith)
+plain b (inr (inl e)) = (omega arith, (λ x. omega arith), (λ x. omega arith), (λ x. omega arith), omega arith)
+plain b (inr (inr e)) = (omega arith, (λ x. omega arith), (λ x. omega arith), (λ x. omega arith), omega arith)
 
 digit_plain : (b : ℕ) → IsAsciiDigit b → IsPlain b
 digit_plain b d = plain b (inl (omega arith, (λ e. omega arith), omega arith))
@@ -63,6 +64,15 @@ empty_number n = let test : IsTrue (is_number []) = (number_test []).1 n in cc
 last_plain : (s : List ℕ) (b : ℕ) (t : List ℕ) → AllByRecursion IsPlain ((s ++ b ∷ []) ++ t) → IsPlain b
 last_plain [] b t a = a.0
 last_plain (x ∷ s) b t a = last_plain s b t a.1
+
+small_bytes : (text : List ℕ) → AllByRecursion IsPlain text → IsAscii text
+small_bytes [] a i = omega arith
+small_bytes (b ∷ text) a zero = a.0.4
+small_bytes (b ∷ text) a (suc i) = small_bytes text a.1 i
+
+-- the text of a number is ASCII
+pub number_ascii : (text : List ℕ) → IsNumber text → IsAscii text
+number_ascii text n = small_bytes text (number_plain text n)
 
 -- no number goes on with another byte
 pub number_ends : (text : List ℕ) (b : ℕ) → ¬ IsPlain b → begins_number (text ++ b ∷ []) ≡ false

@@ -1,4 +1,4 @@
--- The phases decide which texts are numbers.
+-- the phases decide which texts are numbers
 use Rattle.std.proofs.Common.{◌≡◌, ℕ, ◌+◌, ◌<◌, ◌≤◌, List, [], ◌∷◌, ◌++◌, refl, sym, ◌∙◌, ap, subst, append_assoc, arith, ◌⊎◌, inl, inr, Some, None, IsTrue, Option, Bool, false, length, take, drop, get_or}
 use Rattle.std.specs.Prelude.{◌↔◌, option_and_then, is_some}
 use Rattle.std.specs.Char.{IsAsciiDigit}

@@ -1,4 +1,4 @@
--- What is true where a call succeeds.
+-- what is true where a call succeeds
 use Rattle.std.proofs.Common.{Result, Ok, Err, OnOk}
 
 pub on_ok : {A E : Type 0} {P : Type 0} (r : Result A E) → P → OnOk r P

@@ -1,4 +1,4 @@
--- When a tree is proper, by the values in it.
+-- when a tree is proper, by the values in it
 use Rattle.std.proofs.Common.{ℕ, ◌-◌, ◌<◌, ◌≤◌, List, [], ◌∷◌, map, arith, Bool, IsTrue}
 use Rattle.std.specs.Prelude.{◌↔◌}
 use Rattle.std.specs.List.{AllByRecursion}

@@ -1,6 +1,6 @@
--- No list, object, number, word or key that a text spells is longer than the text. A comma stands between any two elements,
--- and brackets stand round all; a number is its own text; and each character of a word is spelled by no fewer bytes than it
--- has in UTF-8.
+-- no list, object, number, word or key that a text spells is longer than the text; a comma stands
+-- between any two elements, and brackets stand round all; a number is its own text; and each
+-- character of a word is spelled by no fewer bytes than it has in UTF-8
 use Rattle.std.proofs.Common.{◌≡◌, ℕ, ◌+◌, ◌≤◌, List, [], ◌∷◌, ◌++◌, length, sym, ◌∙◌, ap, subst, append_assoc, arith, encode_utf8, encode_utf8_all}
 use Rattle.std.specs.List.{AllByRecursion}
 use Rattle.std.proofs.lemmas.List.{length-append}

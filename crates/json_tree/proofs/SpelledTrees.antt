@@ -1,4 +1,4 @@
--- The trees that texts spell are proper, and their texts are numbers and UTF-8.
+-- the trees that texts spell are proper, and their texts are numbers and UTF-8
 use Rattle.std.proofs.Common.{◌≡◌, ℕ, ◌+◌, ◌-◌, ◌*◌, ◌<◌, ◌≤◌, List, [], ◌∷◌, ◌++◌, refl, sym, subst, arith, ◌⊎◌, inl, inr, Some, true, IsUtf8}
 use Rattle.std.specs.Char.{IsScalar}
 use Rattle.std.specs.List.{AllByRecursion}

@@ -1,4 +1,4 @@
--- The printed form of a proper tree spells that tree.
+-- the printed form of a proper tree spells that tree
 use Rattle.std.proofs.Common.{◌≡◌, ◌≢◌, inl, inr, ℕ, suc, ◌+◌, ◌/◌, ◌%◌, ◌<◌, ◌≤◌, List, [], ◌∷◌, ◌++◌, map, refl, sym, ◌∙◌, ap, subst, append_assoc, arith, true, encode_utf8, IsUtf8, lit<}
 use Rattle.std.specs.Char.{IsScalar, digit_char, digit_value}
 use Rattle.std.specs.List.{flat_map, AllByRecursion}
@@ -9,7 +9,7 @@ use Rattle.std.proofs.lemmas.Bool.Decides.{nat_tests}
 use Rattle.std.proofs.lemmas.Str.{encodes-chars, scalars-chars, digit_value-digit_char}
 use lib.Utf8.{scalars}
 use Rattle.json_tree.specs.Number.{IsNumber}
-use Rattle.json_tree.specs.Printed.{printed, printed_member, printed_word, printed_character, printed_control}
+use Rattle.json_tree.specs.PrintedForm.{printed_form, printed_member, printed_word, printed_character, printed_control}
 use Rattle.json_tree.specs.Spells.{Spells, SpellsValue, SpellsItem, SpellsItems, SpellsMember, SpellsMembers, null, truth, number, word, empty_list, list, empty_object, object, item, first, next, member, first_member, next_member}
 use Rattle.json_tree.specs.Word.{IsHexadecimal, SpellsUnit, SpellsCharacter, itself, escaped, by_unit, SpellsCharacters, none, more, SpellsWord}
 use Rattle.json_tree.specs.Tree.{keys, HasKey, AreDistinct, largest, nesting, nesting_of_member, HasDistinctKeys, HasDistinctKeysThroughout, MemberHasDistinctKeys, HasValidText, HasValidTexts, MemberHasValidTexts, IsProper}
@@ -20,7 +20,7 @@ use Rattle.json_tree.specs.declared.tree.Json.TheOpen as layers
 use Rattle.json_tree.specs.declared.tree.Member.{Member}
 use Rattle.json_tree.proofs.Distinct.{new_word}
 use Rattle.json_tree.proofs.Joined.{joined}
-use Rattle.json_tree.proofs.Trees.{printed-Null, printed-Truth, printed-Number, printed-Word, printed-List, printed-Object, printed_member-is, nesting-List, nesting-Object, nesting_of_member-is, every_items, every_members, every_keys, every_number, every_word, every_key, every_value}
+use Rattle.json_tree.proofs.Trees.{printed_form-Null, printed_form-Truth, printed_form-Number, printed_form-Word, printed_form-List, printed_form-Object, printed_member-is, nesting-List, nesting-Object, nesting_of_member-is, every_items, every_members, every_keys, every_number, every_word, every_key, every_value}
 
 -- ---- words
 
@@ -102,7 +102,7 @@ new_key earlier m later d = new_word (keys earlier) (keys later) m.key (subst Ar
 
 -- what is to show of a value and of a member, at each depth
 abbrev ValueSpells : Json → Type 0
-ValueSpells tree = (depth : ℕ) → HasValidTexts tree → HasDistinctKeysThroughout tree → depth + nesting tree ≤ 64 → SpellsValue depth (printed tree) tree
+ValueSpells tree = (depth : ℕ) → HasValidTexts tree → HasDistinctKeysThroughout tree → depth + nesting tree ≤ 64 → SpellsValue depth (printed_form tree) tree
 
 abbrev MemberSpells : Member → Type 0
 MemberSpells m = (depth : ℕ) → MemberHasValidTexts m → MemberHasDistinctKeys m → depth + nesting_of_member m ≤ 64 → SpellsMember depth (printed_member m) m
@@ -112,11 +112,11 @@ module _ (depth : ℕ) where
   FitItems items = AllByRecursion HasValidTexts items × AllByRecursion HasDistinctKeysThroughout items × (depth + largest (map nesting items) ≤ 64)
 
   items_on : (front : List ℕ) (earlier : List Json) (later : List ((t : Json) × ValueSpells t)) → SpellsItems depth front earlier → FitItems (map (λ e. e.0) later)
-      → SpellsItems depth (front ++ flat_map (λ y. 44 ∷ y) (map printed (map (λ e. e.0) later))) (earlier ++ map (λ e. e.0) later)
+      → SpellsItems depth (front ++ flat_map (λ y. 44 ∷ y) (map printed_form (map (λ e. e.0) later))) (earlier ++ map (λ e. e.0) later)
   items_on front earlier [] s fit = rw (append-nil front, append-nil earlier) s
   items_on front earlier (e ∷ later) s fit =
-      let one = next front (printed e.0) earlier e.0 s (bare depth (printed e.0) e.0 (e.1 depth fit.0.0 fit.1.0 (omega (arith, fit.2)))) refl refl in
-      let rest = items_on (front ++ (44 ∷ []) ++ printed e.0) (earlier ++ e.0 ∷ []) later one (fit.0.1, fit.1.1, omega (arith, fit.2)) in
+      let one = next front (printed_form e.0) earlier e.0 s (bare depth (printed_form e.0) e.0 (e.1 depth fit.0.0 fit.1.0 (omega (arith, fit.2)))) refl refl in
+      let rest = items_on (front ++ (44 ∷ []) ++ printed_form e.0) (earlier ++ e.0 ∷ []) later one (fit.0.1, fit.1.1, omega (arith, fit.2)) in
       simp append_assoc at rest
 
   abbrev FitMembers : List Member → Type 0
@@ -133,19 +133,19 @@ module _ (depth : ℕ) where
       simp append_assoc at rest
 
 list_spells : (items : List ((t : Json) × ValueSpells t)) → ValueSpells (trees.List (map (λ e. e.0) items))
-list_spells [] depth t d n = empty_list [] (let e = nesting-List [] in omega arith) tt (printed-List []) refl
+list_spells [] depth t d n = empty_list [] (let e = nesting-List [] in omega arith) tt (printed_form-List []) refl
 list_spells (e ∷ items) depth t d n =
     let all = e.0 ∷ map (λ e. e.0) items in
     let fit : depth + suc (largest (map nesting all)) ≤ 64 = subst (λ k. depth + k ≤ 64) (nesting-List all) n in
     let texts = every_items HasValidText (λ m. IsUtf8 m.key) all t in
     let distinct = every_items HasDistinctKeys (λ m. Unit {0}) all d in
-    let first_item = first {depth = suc depth} e.0 (bare (suc depth) (printed e.0) e.0 (e.1 (suc depth) texts.0 distinct.0 (omega (arith, fit)))) refl in
-    let inner = items_on (suc depth) (printed e.0) (e.0 ∷ []) items first_item (texts.1, distinct.1, omega (arith, fit)) in
-    list (printed e.0 ++ flat_map (λ y. 44 ∷ y) (map printed (map (λ e. e.0) items))) all (omega (arith, fit)) inner
-    (printed-List all ∙ ap (λ x. (91 ∷ []) ++ x ++ (93 ∷ [])) (joined (printed e.0) (map printed (map (λ e. e.0) items)))) refl
+    let first_item = first {depth = suc depth} e.0 (bare (suc depth) (printed_form e.0) e.0 (e.1 (suc depth) texts.0 distinct.0 (omega (arith, fit)))) refl in
+    let inner = items_on (suc depth) (printed_form e.0) (e.0 ∷ []) items first_item (texts.1, distinct.1, omega (arith, fit)) in
+    list (printed_form e.0 ++ flat_map (λ y. 44 ∷ y) (map printed_form (map (λ e. e.0) items))) all (omega (arith, fit)) inner
+    (printed_form-List all ∙ ap (λ x. (91 ∷ []) ++ x ++ (93 ∷ [])) (joined (printed_form e.0) (map printed_form (map (λ e. e.0) items)))) refl
 
 object_spells : (members : List ((m : Member) × MemberSpells m)) → ValueSpells (trees.Object (map (λ e. e.0) members))
-object_spells [] depth t d n = empty_object [] (let e = nesting-Object [] in omega arith) tt (printed-Object []) refl
+object_spells [] depth t d n = empty_object [] (let e = nesting-Object [] in omega arith) tt (printed_form-Object []) refl
 object_spells (e ∷ members) depth t d n =
     let all = e.0 ∷ map (λ e. e.0) members in
     let fit : depth + suc (largest (map nesting_of_member all)) ≤ 64 = subst (λ k. depth + k ≤ 64) (nesting-Object all) n in
@@ -154,24 +154,24 @@ object_spells (e ∷ members) depth t d n =
     let one = first_member {depth = suc depth} e.0 (e.1 (suc depth) texts.0 distinct.0 (omega (arith, fit))) refl in
     let inner = members_on (suc depth) (printed_member e.0) (e.0 ∷ []) members one (texts.1, distinct.1, omega (arith, fit)) (every_keys HasDistinctKeys (λ m. Unit {0}) all d) in
     object (printed_member e.0 ++ flat_map (λ y. 44 ∷ y) (map printed_member (map (λ e. e.0) members))) all (omega (arith, fit)) inner
-    (printed-Object all ∙ ap (λ x. (123 ∷ []) ++ x ++ (125 ∷ [])) (joined (printed_member e.0) (map printed_member (map (λ e. e.0) members)))) refl
+    (printed_form-Object all ∙ ap (λ x. (123 ∷ []) ++ x ++ (125 ∷ [])) (joined (printed_member e.0) (map printed_member (map (λ e. e.0) members)))) refl
 
 member_spells : (m : Member) → ValueSpells m.value → MemberSpells m
 member_spells m v depth t d n =
     let key = every_key HasValidText (λ m. IsUtf8 m.key) m t in
     let value = v depth (every_value HasValidText (λ m. IsUtf8 m.key) m t) (every_value HasDistinctKeys (λ m. Unit {0}) m d) (subst (λ k. depth + k ≤ 64) (nesting_of_member-is m) n) in
-    member [] (printed_word m.key) [] (printed m.value) tt (spells_word m.key key) tt (bare depth (printed m.value) m.value value)
+    member [] (printed_word m.key) [] (printed_form m.value) tt (spells_word m.key key) tt (bare depth (printed_form m.value) m.value value)
     (printed_member-is m ∙ simp append_assoc)
 
 layer_spells : (layer : Json-F ((t : Json) × ValueSpells t) ((m : Member) × MemberSpells m))
     → ValueSpells (trees.roll-Json (map-Json ((t : Json) × ValueSpells t) ((m : Member) × MemberSpells m) Json Member (λ e. e.0) (λ e. e.0) layer))
-layer_spells layers.Null = subst ValueSpells (sym trees.rolls-Null) (λ depth t d n. null printed-Null refl)
-layer_spells (layers.Truth is) = subst ValueSpells (sym (trees.rolls-Truth is)) (λ depth t d n. truth is (printed-Truth is) refl)
+layer_spells layers.Null = subst ValueSpells (sym trees.rolls-Null) (λ depth t d n. null printed_form-Null refl)
+layer_spells (layers.Truth is) = subst ValueSpells (sym (trees.rolls-Truth is)) (λ depth t d n. truth is (printed_form-Truth is) refl)
 layer_spells (layers.Number text) = subst ValueSpells (sym (trees.rolls-Number text)) (λ depth t d n.
-    let same = printed-Number text in
+    let same = printed_form-Number text in
     number (subst IsNumber (sym same) (every_number HasValidText (λ m. IsUtf8 m.key) text t)) (ap Number (sym same)))
 layer_spells (layers.Word w) = subst ValueSpells (sym (trees.rolls-Word w)) (λ depth t d n.
-    let same = printed-Word w in
+    let same = printed_form-Word w in
     word w (subst (λ text. SpellsWord text w) (sym same) (spells_word w (every_word HasValidText (λ m. IsUtf8 m.key) w t))) refl)
 layer_spells (layers.List items) = subst ValueSpells (sym (trees.rolls-List (map (λ e. e.0) items))) (list_spells items)
 layer_spells (layers.Object members) = subst ValueSpells (sym (trees.rolls-Object (map (λ e. e.0) members))) (object_spells members)
@@ -181,5 +181,5 @@ value_spells = ind-Json ValueSpells MemberSpells
     (λ x y is. subst (λ x. ValueSpells (trees.roll-Json x)) is (layer_spells y))
     (λ x y is. subst (λ x. MemberSpells (trees.roll-Member x)) is (member_spells (record { key = y.key; value = y.value.0 }) y.value.1))
 
-pub printed_spells : (tree : Json) → HasValidTexts tree → IsProper tree → Spells (printed tree) tree
-printed_spells tree t p = bare 0 (printed tree) tree (value_spells tree 0 t p.distinct (omega (arith, p.nested)))
+pub printed_spells : (tree : Json) → HasValidTexts tree → IsProper tree → Spells (printed_form tree) tree
+printed_spells tree t p = bare 0 (printed_form tree) tree (value_spells tree 0 t p.distinct (omega (arith, p.nested)))

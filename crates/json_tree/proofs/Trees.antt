@@ -1,7 +1,8 @@
--- Trees by their layers: what the folds give for each kind of value, and what is true throughout a tree.
+-- trees by their layers: what the folds give for each kind of value, and what is true throughout a
+-- tree
 use Rattle.std.proofs.Common.{◌≡◌, ℕ, suc, List, [], ◌∷◌, ◌++◌, map, refl, sym, ◌∙◌, ap, subst, Bool, codes}
 use Rattle.std.specs.List.{join_with_byte, AllByRecursion}
-use Rattle.json_tree.specs.Printed.{printed, printed_layer, printed_pair, printed_member, printed_word}
+use Rattle.json_tree.specs.PrintedForm.{printed_form, printed_layer, printed_pair, printed_member, printed_word}
 use Rattle.json_tree.specs.Spells.{truth_word}
 use Rattle.json_tree.specs.Tree.{nesting, nesting_of_layer, nesting_of_member, largest}
 use Rattle.json_tree.specs.declared.tree.Json.{Json, Json-F, Null, Truth, Number, Word}
@@ -12,25 +13,25 @@ use Rattle.json_tree.specs.declared.tree.Json.TheFolds.{map-Json, every-Json, ev
 
 -- ---- the printed form
 
-pub printed-List : (items : List Json) → printed (trees.List items) ≡ (91 ∷ []) ++ join_with_byte 44 (map printed items) ++ (93 ∷ [])
-printed-List items = ap printed (sym (trees.rolls-List items)) ∙ fold-roll-Json (List ℕ) (List ℕ) printed_layer printed_pair (layers.List items)
+pub printed_form-List : (items : List Json) → printed_form (trees.List items) ≡ (91 ∷ []) ++ join_with_byte 44 (map printed_form items) ++ (93 ∷ [])
+printed_form-List items = ap printed_form (sym (trees.rolls-List items)) ∙ fold-roll-Json (List ℕ) (List ℕ) printed_layer printed_pair (layers.List items)
 
-pub printed-Object : (members : List Member) → printed (trees.Object members) ≡ (123 ∷ []) ++ join_with_byte 44 (map printed_member members) ++ (125 ∷ [])
-printed-Object members = ap printed (sym (trees.rolls-Object members)) ∙ fold-roll-Json (List ℕ) (List ℕ) printed_layer printed_pair (layers.Object members)
+pub printed_form-Object : (members : List Member) → printed_form (trees.Object members) ≡ (123 ∷ []) ++ join_with_byte 44 (map printed_member members) ++ (125 ∷ [])
+printed_form-Object members = ap printed_form (sym (trees.rolls-Object members)) ∙ fold-roll-Json (List ℕ) (List ℕ) printed_layer printed_pair (layers.Object members)
 
-pub printed-Null : printed Null ≡ codes "null"
-printed-Null = ap printed (sym trees.rolls-Null) ∙ fold-roll-Json (List ℕ) (List ℕ) printed_layer printed_pair layers.Null
+pub printed_form-Null : printed_form Null ≡ codes "null"
+printed_form-Null = ap printed_form (sym trees.rolls-Null) ∙ fold-roll-Json (List ℕ) (List ℕ) printed_layer printed_pair layers.Null
 
-pub printed-Truth : (is : Bool) → printed (Truth is) ≡ truth_word is
-printed-Truth is = ap printed (sym (trees.rolls-Truth is)) ∙ fold-roll-Json (List ℕ) (List ℕ) printed_layer printed_pair (layers.Truth is)
+pub printed_form-Truth : (is : Bool) → printed_form (Truth is) ≡ truth_word is
+printed_form-Truth is = ap printed_form (sym (trees.rolls-Truth is)) ∙ fold-roll-Json (List ℕ) (List ℕ) printed_layer printed_pair (layers.Truth is)
 
-pub printed-Number : (text : List ℕ) → printed (Number text) ≡ text
-printed-Number text = ap printed (sym (trees.rolls-Number text)) ∙ fold-roll-Json (List ℕ) (List ℕ) printed_layer printed_pair (layers.Number text)
+pub printed_form-Number : (text : List ℕ) → printed_form (Number text) ≡ text
+printed_form-Number text = ap printed_form (sym (trees.rolls-Number text)) ∙ fold-roll-Json (List ℕ) (List ℕ) printed_layer printed_pair (layers.Number text)
 
-pub printed-Word : (word : List ℕ) → printed (Word word) ≡ printed_word word
-printed-Word word = ap printed (sym (trees.rolls-Word word)) ∙ fold-roll-Json (List ℕ) (List ℕ) printed_layer printed_pair (layers.Word word)
+pub printed_form-Word : (word : List ℕ) → printed_form (Word word) ≡ printed_word word
+printed_form-Word word = ap printed_form (sym (trees.rolls-Word word)) ∙ fold-roll-Json (List ℕ) (List ℕ) printed_layer printed_pair (layers.Word word)
 
-pub printed_member-is : (m : Member) → printed_member m ≡ printed_word m.key ++ (58 ∷ []) ++ printed m.value
+pub printed_member-is : (m : Member) → printed_member m ≡ printed_word m.key ++ (58 ∷ []) ++ printed_form m.value
 printed_member-is m = fold-roll-Member (List ℕ) (List ℕ) printed_layer printed_pair (trees.out-Member m)
 
 -- ---- nesting

@@ -1,4 +1,4 @@
--- What stands at a step into a tree.
+-- what stands at a step into a tree
 use Rattle.std.specs.Prelude.{ℕ, List, Option, None, option_map, find, slice_get}
 use Rattle.std.specs.Str.{bytes_eq}
 use Rattle.json_tree.specs.declared.tree.Json.{Json, Json-F, out-Json}

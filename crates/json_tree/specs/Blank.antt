@@ -1,4 +1,5 @@
--- Blanks between the parts of a JSON text: space, tab, line feed and carriage return (RFC 8259, section 2).
+-- blanks between the parts of a JSON text: space, tab, line feed and carriage return (RFC 8259,
+-- section 2)
 use Rattle.std.specs.Prelude.{◌≡◌, ◌⊎◌, ℕ, List}
 use Rattle.std.specs.List.{AllByRecursion}
 

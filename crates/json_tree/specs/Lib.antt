@@ -1,8 +1,9 @@
 pub mod Number
+pub mod NumberForm
 pub mod Scan
 pub mod Blank
 pub mod Word
 pub mod Tree
 pub mod Spells
-pub mod Printed
+pub mod PrintedForm
 pub mod At

@@ -1,4 +1,5 @@
--- The tree that a text spells: its keys, how deep its lists and objects nest, how long they are, and which trees texts spell.
+-- the tree that a text spells: its keys, how deep its lists and objects nest, how long they are,
+-- and which trees texts spell
 use Rattle.std.specs.Prelude.{◌≢◌, ℕ, suc, ◌≤◌, max, List, [], ◌∷◌, length, map, Contains, AllPairs, IsUtf8}
 use Rattle.json_tree.specs.Number.{IsNumber}
 use Rattle.json_tree.specs.declared.tree.Json.{Json, Json-F, fold-Json}
@@ -69,8 +70,8 @@ HasValidTexts tree = every-Json HasValidText (λ m. IsUtf8 m.key) tree
 abbrev pub MemberHasValidTexts : Member → Type 0
 MemberHasValidTexts m = every-Member HasValidText (λ m. IsUtf8 m.key) m
 
--- A list has at most so many elements, an object at most so many members, and the text of a number and a word at most so
--- many bytes.
+-- a list has at most so many elements, an object at most so many members, and the text of a number
+-- and a word at most so many bytes
 abbrev pub HasLengthUpTo : ℕ → Json-F Json Member → Type 0
 HasLengthUpTo most (layers.List items) = length items ≤ most
 HasLengthUpTo most (layers.Object members) = length members ≤ most

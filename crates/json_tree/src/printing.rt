@@ -5,7 +5,7 @@ ghost use Rattle.std.specs.Str.{chars};
 ghost use Rattle.json_tree.specs.Spells.{Spells};
 ghost use Rattle.json_tree.specs.Tree.{HasValidTexts, MemberHasValidTexts, IsProper};
 ghost use Rattle.json_tree.specs.declared.tree.Json.{Json};
-ghost use Rattle.json_tree.specs.Printed.{printed, printed_member, printed_word, printed_character, printed_control, comma_before};
+ghost use Rattle.json_tree.specs.PrintedForm.{printed_form, printed_member, printed_word, printed_character, printed_control, comma_before};
 
 use crate::tree::{Json, Member};
 use fold_base::Text;
@@ -13,7 +13,7 @@ use std::alloc::{AllocError, Global};
 
 /// The printed form of the tree.
 pub fn print(alloc: Global, tree: &Json) -> Result<Text, AllocError>
-    ensures printed { IfOk result (λ text. text ≡ printed tree.now) }
+    ensures printed { IfOk result (λ text. text ≡ printed_form tree.now) }
     ensures spells { IfOk result (λ text. IsProper tree.now → Spells text tree.now) }
     ensures texts { OnOk result (HasValidTexts tree.now) }
 {
@@ -24,12 +24,12 @@ pub fn print(alloc: Global, tree: &Json) -> Result<Text, AllocError>
 
 /// The printed form of a proper tree spells that tree.
 pub fn printed_form_spells()
-    ensures { (tree : Json) → HasValidTexts tree → IsProper tree → Spells (printed tree) tree }
+    ensures { (tree : Json) → HasValidTexts tree → IsProper tree → Spells (printed_form tree) tree }
 {}
 
 #[cycle(printing)]
 fn put_value(out: &mut String, tree: &Json) -> Result<(), AllocError>
-    ensures printed { OnOk result (string_bytes out.new ≡ string_bytes out.old ++ printed tree.now) }
+    ensures printed { OnOk result (string_bytes out.new ≡ string_bytes out.old ++ printed_form tree.now) }
     ensures texts { OnOk result (HasValidTexts tree.now) }
 {
     match tree {
@@ -54,7 +54,7 @@ fn put_value(out: &mut String, tree: &Json) -> Result<(), AllocError>
 #[cycle(printing)]
 fn put_items(out: &mut String, items: &[Json]) -> Result<(), AllocError>
     ensures printed { OnOk result
-        (string_bytes out.new ≡ string_bytes out.old ++ join_with_byte 44 (map printed items.now)) }
+        (string_bytes out.new ≡ string_bytes out.old ++ join_with_byte 44 (map printed_form items.now)) }
     ensures texts { OnOk result (AllByRecursion HasValidTexts items.now) }
 {
     for (place, item) in items.iter().enumerate() {

@@ -4,7 +4,6 @@ ghost use Rattle.json_tree.specs.Scan.{is_number, begins_number};
 
 use crate::NumberText;
 use crate::phase::Phase;
-use fold_base::Text;
 use std::alloc::{AllocError, Global};
 use std::marker::Model;
 
@@ -72,15 +71,15 @@ impl NumberScanner {
         self.phase.is_whole()
     }
 
-    /// Gives the number, by one allocation, and begins anew.
+    /// Gives the number, and begins anew.
     pub fn finish(&mut self, alloc: Global) -> Result<NumberText, AllocError>
         requires { IsNumber self.old }
         ensures number { IfOk result (λ number. number ≡ self.old) }
         ensures anew { OnOk result (self.new ≡ []) }
         ensures err { OnErr result (self.new ≡ self.old) }
     {
-        let text = Text::from_text(alloc, self.text.as_str())?;
+        let number = NumberText::from_scanned(alloc, self.text.as_str())?;
         self.restart();
-        Ok(NumberText::from_scanned(text))
+        Ok(number)
     }
 }

@@ -1,4 +1,6 @@
-use crate::{Json, Member, NumberScanner, NumberText, Step, at, copy, is_proper, print};
+use crate::{
+    Json, Member, NumberReadFault, NumberScanner, NumberText, Step, at, copy, is_proper, print,
+};
 use fold_base::{List, Text};
 use std::alloc::{AllocError, Global};
 use std::test::Fail;
@@ -14,19 +16,21 @@ fn reads_number_texts(rt: HostRuntime) -> Result<(), Fail> {
         "1e3",
         "1.50e+02",
         "-0.0E-7",
+        // 22 bytes, and one more.
+        "-1234567890.1234567890",
+        "-1234567890.12345678901",
     ] {
-        let number = NumberText::read(Text::from_text(alloc, text)?)
-            .ok()
-            .ok_or(text)?;
+        let number = NumberText::read(alloc, text)?;
         assert_eq!(rt; number.copy(alloc)?.as_str(), text);
     }
     for text in [
         "", "-", "01", "+1", " 1", "--1", "1.", ".5", "1.e3", "1.5.2", "1e", "1e+", "-e1",
     ] {
-        let given = NumberText::read(Text::from_text(alloc, text)?)
-            .err()
-            .ok_or(text)?;
-        assert_eq!(rt; given.as_str(), text);
+        assert_eq!(rt;
+            NumberText::read(alloc, text).err(),
+            Some(NumberReadFault::NoNumber),
+            "{text}"
+        );
     }
     Ok(())
 }
@@ -47,10 +51,7 @@ fn scans_two_numbers(rt: HostRuntime) -> Result<(), Fail> {
 }
 
 fn number(alloc: Global, text: &str) -> Result<Json, Fail> {
-    let number = NumberText::read(Text::from_text(alloc, text)?)
-        .ok()
-        .ok_or("number")?;
-    Ok(Json::Number(number))
+    Ok(Json::Number(NumberText::read(alloc, text)?))
 }
 
 fn member(alloc: Global, key: &str, value: Json) -> Result<Member, Fail> {

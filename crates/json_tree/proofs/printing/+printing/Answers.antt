@@ -1,16 +1,16 @@
 use Rattle.std.proofs.Common.{IsUtf8, sym, ap, ◌∙◌, subst, arith}
 use Rattle.std.specs.List.{AllByRecursion}
 use Rattle.std.proofs.lemmas.Grind.{common_steps}
-use Rattle.json_tree.specs.Printed.{printed, printed_member}
+use Rattle.json_tree.specs.PrintedForm.{printed_form, printed_member}
 use Rattle.json_tree.specs.Tree.{HasValidText, HasValidTexts, MemberHasValidTexts}
 use Rattle.json_tree.proofs.Outcomes.{on_ok, on_ok_by}
-use Rattle.json_tree.proofs.Trees.{printed-List, printed-Object, every-Null, every-Truth, every-Number, every-Word, every-List, every-Object, every_member}
+use Rattle.json_tree.proofs.Trees.{printed_form-List, printed_form-Object, every-Null, every-Truth, every-Number, every-Word, every-List, every-Object, every_member}
 use Rattle.json_tree.proofs.Joined.{joined_more, all_more}
 use Rattle.json_tree.proofs.printing.+printing.Goals as goal
 
 pub put_items-loop-place-preserved : goal.put_items-loop-place-preserved
 put_items-loop-place-preserved t c = record {
-  printed = joined_more c.args.items.now c.loop-place.place c.index-items-place.result c.loop-place-test.true c.index-items-place.is printed _ _ _ _ c.loop-place.invariant.printed c.in_ok-put_comma.ensures c.in_ok-put_value.ensures.printed;
+  printed = joined_more c.args.items.now c.loop-place.place c.index-items-place.result c.loop-place-test.true c.index-items-place.is printed_form _ _ _ _ c.loop-place.invariant.printed c.in_ok-put_comma.ensures c.in_ok-put_value.ensures.printed;
   texts = all_more c.args.items.now c.loop-place.place c.index-items-place.result c.loop-place-test.true c.index-items-place.is HasValidTexts c.in_ok-put_value.ensures.texts c.loop-place.invariant.texts;
 }
 
@@ -40,7 +40,7 @@ put_value-returns-in-Word-clause-texts t c = on_ok_by _ c.put_word.ensures.utf8 
 
 pub put_value-returns-in_ok-put_items-in-List-clause-printed : goal.put_value-returns-in_ok-put_items-in-List-clause-printed
 put_value-returns-in_ok-put_items-in-List-clause-printed t c =
-    let e = ap printed c.in-List.is ∙ printed-List _ in
+    let e = ap printed_form c.in-List.is ∙ printed_form-List _ in
     grind (arith, common_steps)
 
 pub put_value-returns-in_ok-put_items-in-List-clause-texts : goal.put_value-returns-in_ok-put_items-in-List-clause-texts
@@ -48,7 +48,7 @@ put_value-returns-in_ok-put_items-in-List-clause-texts t c = on_ok _ (subst HasV
 
 pub put_value-returns-in_ok-put_members-in-Object-clause-printed : goal.put_value-returns-in_ok-put_members-in-Object-clause-printed
 put_value-returns-in_ok-put_members-in-Object-clause-printed t c =
-    let e = ap printed c.in-Object.is ∙ printed-Object _ in
+    let e = ap printed_form c.in-Object.is ∙ printed_form-Object _ in
     grind (arith, common_steps)
 
 pub put_value-returns-in_ok-put_members-in-Object-clause-texts : goal.put_value-returns-in_ok-put_members-in-Object-clause-texts

@@ -2,7 +2,7 @@ use Rattle.std.proofs.Common.{◌++◌, string_bytes, ◌∙◌, ap, sym, map-id
 use Rattle.std.specs.List.{flat_map}
 use Rattle.std.proofs.lemmas.Iterator.{YieldsList-from_chars}
 use Rattle.std.proofs.lemmas.Iterator.Consumers.{YieldsList-end}
-use Rattle.json_tree.specs.Printed.{printed_character}
+use Rattle.json_tree.specs.PrintedForm.{printed_character}
 use Rattle.json_tree.proofs.printing.put_characters.Goals as goal
 
 pub returns : goal.returns

@@ -1,6 +1,6 @@
 use Rattle.std.proofs.Common.{◌≡◌, ◌++◌, string_bytes}
 use Rattle.std.specs.List.{flat_map}
-use Rattle.json_tree.specs.Printed.{printed_character}
+use Rattle.json_tree.specs.PrintedForm.{printed_character}
 use Rattle.json_tree.proofs.printing.put_characters.Given as goal
 
 abbrev pub invariant-loop-character : goal.invariant-loop-character

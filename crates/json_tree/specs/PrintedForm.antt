@@ -1,5 +1,5 @@
--- The printed form of a tree: no blanks, members in their order, numbers as they were spelled. Each layer is said over
--- the printed forms of what stands inside it.
+-- the printed form of a tree: no blanks, members in their order, numbers as they were spelled; each
+-- layer is said over the printed forms of what stands inside it
 use Rattle.std.specs.Prelude.{ℕ, ◌/◌, ◌%◌, ◌==◌, nat_lt, List, [], ◌∷◌, ◌++◌, if◌then◌else◌, codes, encode_utf8}
 use Rattle.std.specs.Char.{digit_char}
 use Rattle.std.specs.List.{flat_map, join_with_byte}
@@ -15,7 +15,8 @@ use Rattle.json_tree.specs.declared.tree.Member.{Member}
 abbrev pub printed_control : ℕ → List ℕ
 printed_control c = codes "\\u00" ++ digit_char (c / 16) ∷ digit_char (c % 16) ∷ []
 
--- a character of a word: the quote, the backslash and the control characters escaped, all else as it is
+-- a character of a word: the quote, the backslash and the control characters escaped, all else as
+-- it is
 abbrev pub printed_character : ℕ → List ℕ
 printed_character c =
     if c == 34 then codes "\\\"" else
@@ -46,8 +47,8 @@ printed_layer (layers.Object members) = (123 ∷ []) ++ join_with_byte 44 member
 abbrev pub printed_pair : Member-F (List ℕ) (List ℕ) → List ℕ
 printed_pair m = printed_word m.key ++ (58 ∷ []) ++ m.value
 
-abbrev pub printed : Json → List ℕ
-printed tree = fold-Json (List ℕ) (List ℕ) printed_layer printed_pair tree
+abbrev pub printed_form : Json → List ℕ
+printed_form tree = fold-Json (List ℕ) (List ℕ) printed_layer printed_pair tree
 
 abbrev pub printed_member : Member → List ℕ
 printed_member m = fold-Member (List ℕ) (List ℕ) printed_layer printed_pair m
