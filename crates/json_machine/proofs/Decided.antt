@@ -1,4 +1,4 @@
--- The machine decides which text spells which tree.
+-- the machine decides which text spells which tree
 use Rattle.std.proofs.Common.{◌≡◌, ℕ, List, refl, Some, None}
 use Rattle.std.specs.Prelude.{option_and_then}
 use Rattle.first_fault.specs.FirstFault.{IsAccepted}

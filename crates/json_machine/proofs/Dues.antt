@@ -1,4 +1,4 @@
--- After a text where a value or a key is due, the machine expects one, inside of what is open.
+-- after a text where a value or a key is due, the machine expects one, inside of what is open
 use Rattle.std.proofs.Common.{ℕ, suc, ◌≤◌, List, [], ◌∷◌, ◌++◌, length, refl, sym, subst, arith, inl, inr, encode_utf8_all}
 use Rattle.json_tree.specs.Word.{SpellsCharacters}
 use Rattle.json_tree.specs.declared.tree.Json.{Json}

@@ -1,4 +1,4 @@
--- Which keys an object has, and that each key in hand can go on to a new one.
+-- which keys an object has, and that each key in hand can go on to a new one
 use Rattle.std.proofs.Common.{◌≡◌, ℕ, zero, suc, ◌+◌, ◌<◌, List, [], ◌∷◌, ◌++◌, length, replicate, refl, sym, ap, subst, append_assoc, arith, ◌⊎◌, inl, inr, Bool, true, false, ◌||◌, bytes_eq, length-append, encode_utf8_all}
 use Rattle.std.specs.List.{Contains}
 use Rattle.std.proofs.lemmas.List.{append-nil, length-replicate}

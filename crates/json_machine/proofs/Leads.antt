@@ -1,4 +1,4 @@
--- The texts that lead to a state: what it answers is spelled, and each of them begins a JSON text.
+-- the texts that lead to a state: what it answers is spelled, and each of them begins a JSON text
 use Rattle.std.proofs.Common.{◌≡◌, ℕ, suc, ◌<◌, List, [], ◌∷◌, ◌++◌, length, refl, sym, ◌∙◌, ap, subst, append_assoc, arith, ◌⊎◌, inl, inr, Option, Some, None, Bool, true, false, codes, encode_utf8_all}
 use Rattle.std.specs.Prelude.{nat_lt, if◌then◌else◌, ◌==◌, ◌&&◌}
 use Rattle.std.proofs.lemmas.List.{append-nil}

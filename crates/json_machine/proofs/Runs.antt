@@ -1,4 +1,4 @@
--- Each JSON text leads the machine to its tree.
+-- each JSON text leads the machine to its tree
 use Rattle.std.proofs.Common.{◌≡◌, ℕ, suc, ◌<◌, ◌≤◌, List, [], ◌∷◌, ◌++◌, length, refl, sym, ◌∙◌, ap, subst, append_assoc, arith, ◌⊎◌, inl, inr, Some, None, Bool, true, false, codes, encode_utf8_all}
 use Rattle.std.specs.Prelude.{nat_lt, if◌then◌else◌, ◌==◌, option_and_then}
 use Rattle.std.proofs.lemmas.List.{append-nil}

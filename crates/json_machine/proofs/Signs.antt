@@ -1,4 +1,4 @@
--- Bytes and their signs.
+-- bytes and their signs
 use Rattle.std.proofs.Common.{◌≡◌, ℕ, arith, inl, inr, refl}
 use Rattle.std.proofs.lemmas.Bool.Decides.{nat_tests}
 use Rattle.json_tree.specs.Blank.{IsBlank}

@@ -1,4 +1,4 @@
--- The parts decide which bytes are characters of a word, and what they spell.
+-- the parts decide which bytes are characters of a word, and what they spell
 use Rattle.std.proofs.Common.{◌≡◌, ◌≢◌, ℕ, zero, suc, ◌+◌, ◌-◌, ◌*◌, ◌/◌, ◌%◌, ◌<◌, ◌≤◌, List, [], ◌∷◌, ◌++◌, refl, sym, ◌∙◌, ap, subst, append_assoc, arith, ◌⊎◌, inl, inr, Some, None, Option, Bool, true, false, encode_utf8, encode_utf8_all, lit≤}
 use Rattle.std.specs.Prelude.{option_map, if◌then◌else◌, nat_lt, nat_le, ◌==◌, ◌||◌}
 use Rattle.std.specs.Char.{IsScalar, digit_value}

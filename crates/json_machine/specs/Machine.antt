@@ -1,4 +1,4 @@
--- JSON text read byte by byte: what each byte makes of a reader, where it can stand there.
+-- JSON text read byte by byte: what each byte makes of a reader, where it can stand there
 use Rattle.std.specs.Prelude.{ℕ, ◌==◌, ◌&&◌, ◌||◌, nat_lt, List, [], ◌∷◌, ◌++◌, length, Bool, true, false, Option, Some, None, if◌then◌else◌, codes}
 use Rattle.std.specs.List.{list_any}
 use Rattle.std.specs.Str.{bytes_eq}
@@ -8,13 +8,15 @@ use Rattle.json_tree.specs.declared.tree.Member.{Member}
 use Rattle.json_tree.specs.Scan.{begins_number, is_number}
 use Rattle.json_machine.specs.WordScan.{WordState, word_start, next_character, is_between}
 
--- a list or an object that is open: the values in it that are done, or the members that are done and the key in hand
+-- a list or an object that is open: the values in it that are done, or the members that are done
+-- and the key in hand
 pub data Frame : Type 0 where
   InList : List Json → Frame
   InObject : List Member → List ℕ → Frame
 
--- what may come next: a value, a value or the end of an empty list, a key, a key or the end of an empty object, a
--- colon; more of a word, a key, a number, or `null`, `true` or `false`, of which these bytes are due; what follows a value
+-- what may come next: a value, a value or the end of an empty list, a key, a key or the end of an
+-- empty object, a colon; more of a word, a key, a number, or `null`, `true` or `false`, of which
+-- these bytes are due; what follows a value
 pub data Phase : Type 0 where
   ValueDue : Phase
   FirstValueDue : Phase
@@ -142,7 +144,7 @@ abbrev pub in_literal : State → List ℕ → Json → ℕ → Option State
 in_literal s [] tree b = None
 in_literal s (x ∷ rest) tree b = if b == x then Some (literal_left s rest tree) else None
 
--- A number ends only with the byte after it.
+-- a number ends only with the byte after it
 abbrev pub in_number : State → List ℕ → ℕ → Sign → Option State
 in_number s text b sign =
     if begins_number (text ++ b ∷ []) then Some (in_phase s (InNumber (text ++ b ∷ []))) else

@@ -1,13 +1,13 @@
--- The characters of a word read byte by byte.
+-- the characters of a word read byte by byte
 use Rattle.std.specs.Prelude.{ℕ, zero, suc, ◌+◌, ◌-◌, ◌*◌, ◌==◌, ◌||◌, nat_lt, nat_le, List, [], ◌++◌, Bool, true, false, Option, Some, None, option_map, if◌then◌else◌, encode_utf8}
 use Rattle.std.specs.Char.{digit_value}
 use Rattle.std.specs.Int.{is_in_range}
 use Rattle.json_tree.specs.Word.{escaped_by}
 
--- How far a character has been read. `Character later low high code`: in the UTF-8 of one, the next byte from low to
--- high, after that so many more, and the value of its bytes so far. `Unit1` to `Unit3`: so many hexadecimal digits after
--- `\u`, and their value. `High` and what follows: after the first half of a surrogate pair, `Low1` to `Low3` so many
--- digits of the second half.
+-- how far a character has been read; `Character later low high code`: in the UTF-8 of one, the next
+-- byte from low to high, after that so many more, and the value of its bytes so far; `Unit1` to
+-- `Unit3`: so many hexadecimal digits after `\u`, and their value; `High` and what follows: after
+-- the first half of a surrogate pair, `Low1` to `Low3` so many digits of the second half
 pub data WordPart : Type 0 where
   Between : WordPart
   Character : ℕ → ℕ → ℕ → ℕ → WordPart
@@ -45,8 +45,8 @@ paired high low = 65536 + (high - 55296) * 1024 + (low - 56320)
 abbrev pub is_high_surrogate : ℕ → Bool
 is_high_surrogate unit = is_in_range 55296 56319 unit
 
--- after the first byte of two, of three and of four. The bounds of the second leave out longer forms, surrogates and
--- what is past U+10FFFF.
+-- after the first byte of two, of three and of four; the bounds of the second leave out longer
+-- forms, surrogates and what is past U+10FFFF
 abbrev pub with_first_of_two : WordState → ℕ → WordState
 with_first_of_two w b = in_part w (Character 0 128 191 (b - 192))
 

@@ -2,7 +2,7 @@ ghost use Rattle.std.specs.Prelude.{◌≡◌, ◌++◌, [], ◌∷◌, ℕ, Lis
 ghost use Rattle.first_fault.specs.FirstFault.{IsAccepted};
 ghost use Rattle.first_fault.specs.Machine.{Decides, answer};
 ghost use Rattle.json_tree.specs.Spells.{Spells};
-ghost use Rattle.json_tree.specs.Printed.{printed};
+ghost use Rattle.json_tree.specs.PrintedForm.{printed_form};
 ghost use Rattle.json_tree.specs.Tree.{HasValidTexts, IsProper};
 ghost use Rattle.json_tree.specs.declared.tree.Json.{Json, Number, Word};
 ghost use Rattle.json_tree.specs.declared.tree.Json.TheViews as trees;
@@ -15,7 +15,7 @@ pub fn one_tree()
 
 /// Reading the printed form of a proper tree gives that tree.
 pub fn reads_back()
-    ensures { (tree : Json) → HasValidTexts tree → IsProper tree → answer step finish start (printed tree) ≡ Some tree }
+    ensures { (tree : Json) → HasValidTexts tree → IsProper tree → answer step finish start (printed_form tree) ≡ Some tree }
 {}
 
 /// Reading byte by byte decides which text spells which tree.
