@@ -1,4 +1,4 @@
--- Each CP text leads the reader to its lines, so the reader decides which texts are CP text.
+-- each CP text leads the reader to its lines, so the reader decides which texts are CP text
 use Rattle.std.proofs.Common.{◌≡◌, ℕ, ◌+◌, ◌-◌, ◌<◌, ◌≤◌, List, [], ◌∷◌, ◌++◌, length, refl, sym, ◌∙◌, ap, subst, append_assoc, arith, inl, inr, Option, Some, None, Bool, length-append, true}
 use Rattle.std.specs.Prelude.{option_to_list, option_map, option_and_then, nat_lt, if◌then◌else◌}
 use Rattle.std.specs.List.{AllByRecursion}

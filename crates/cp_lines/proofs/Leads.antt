@@ -1,4 +1,5 @@
--- The texts that lead the reader to a state: what it answers is spelled, and each of them begins a CP text.
+-- the texts that lead the reader to a state: what it answers is spelled, and each of them begins a
+-- CP text
 use Rattle.std.proofs.Common.{◌≡◌, ℕ, zero, suc, ◌+◌, ◌-◌, ◌<◌, ◌≤◌, List, [], ◌∷◌, ◌++◌, length, refl, sym, ◌∙◌, ap, subst, append_assoc, arith, inl, inr, Some, None, true, false, length-append}
 use Rattle.std.specs.Prelude.{option_map, option_and_then, nat_lt, if◌then◌else◌}
 use Rattle.std.specs.Int.{is_in_range}

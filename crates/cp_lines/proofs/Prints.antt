@@ -1,10 +1,10 @@
--- The printed text of lines spells them.
+-- the printed text of lines spells them
 use Rattle.std.proofs.Common.{◌≡◌, ℕ, suc, ◌+◌, ◌<◌, List, [], ◌∷◌, ◌++◌, length, take, get_or, All, refl, sym, ◌∙◌, ap, subst, append_assoc, arith, inl, Some, None, Result, Ok, Err, OnOk}
 use Rattle.std.specs.Prelude.{is_ok, if◌then◌else◌}
 use Rattle.std.proofs.lemmas.List.{append-nil, take_more, flat_map_more}
 use Rattle.std.proofs.lemmas.List.Elements.{All-nil, All-cons, All-append}
 use Rattle.cp_lines.specs.CpText.{EndedLines, none, one_more, SpellsLine, CpText}
-use Rattle.cp_lines.specs.Print.{IsPrintable, spaced, printed_line, printed}
+use Rattle.cp_lines.specs.Print.{IsPrintable, spaced, printed_line, printed_form}
 use Rattle.cp_lines.specs.declared.line.CpLine.{CpLine}
 
 abbrev front : CpLine → List ℕ
@@ -40,19 +40,19 @@ front_spells l p = (
   tt,
 )
 
-ended_printed : (before : List ℕ) (earlier lines : List CpLine) → EndedLines before earlier → All IsPrintable lines → EndedLines (before ++ printed lines) (earlier ++ lines)
+ended_printed : (before : List ℕ) (earlier lines : List CpLine) → EndedLines before earlier → All IsPrintable lines → EndedLines (before ++ printed_form lines) (earlier ++ lines)
 ended_printed before earlier [] e p = subst (λ t. EndedLines t (earlier ++ [])) (sym (append-nil before)) (subst (EndedLines before) (sym (append-nil earlier)) e)
 ended_printed before earlier (l ∷ lines) e p =
     let first : EndedLines (before ++ printed_line l) (earlier ++ l ∷ []) = one_more before (front l) (10 ∷ []) earlier (Some l) e (front_spells l (p 0 l (omega arith))) (inl refl) (simp append_assoc) refl in
     let rest = ended_printed (before ++ printed_line l) (earlier ++ l ∷ []) lines first (λ k d h. p (suc k) d (omega arith)) in
-    subst (λ t. EndedLines t (earlier ++ l ∷ lines)) (append_assoc before (printed_line l) (printed lines)) (subst (EndedLines ((before ++ printed_line l) ++ printed lines)) (append_assoc earlier (l ∷ []) lines) rest)
+    subst (λ t. EndedLines t (earlier ++ l ∷ lines)) (append_assoc before (printed_line l) (printed_form lines)) (subst (EndedLines ((before ++ printed_line l) ++ printed_form lines)) (append_assoc earlier (l ∷ []) lines) rest)
 
-pub printed_spells : (lines : List CpLine) → All IsPrintable lines → CpText (printed lines) lines
-printed_spells lines p = (printed lines, [], lines, None, ended_printed [] [] lines none p, tt, sym (append-nil (printed lines)), sym (append-nil lines))
+pub printed_spells : (lines : List CpLine) → All IsPrintable lines → CpText (printed_form lines) lines
+printed_spells lines p = (printed_form lines, [], lines, None, ended_printed [] [] lines none p, tt, sym (append-nil (printed_form lines)), sym (append-nil lines))
 
 -- one line more
-pub printed_more : (lines : List CpLine) (i : ℕ) (d : CpLine) → i < length lines → printed (take (i + 1) lines) ≡ printed (take i lines) ++ printed_line (get_or lines i d)
-printed_more lines i d h = ap printed (take_more lines i d h) ∙ sym (flat_map_more printed_line [] (take i lines) (get_or lines i d))
+pub printed_more : (lines : List CpLine) (i : ℕ) (d : CpLine) → i < length lines → printed_form (take (i + 1) lines) ≡ printed_form (take i lines) ++ printed_line (get_or lines i d)
+printed_more lines i d h = ap printed_form (take_more lines i d h) ∙ sym (flat_map_more printed_line [] (take i lines) (get_or lines i d))
 
 pub printable_more : (lines : List CpLine) (i : ℕ) (d : CpLine) → i < length lines → All IsPrintable (take i lines) → IsPrintable (get_or lines i d) → All IsPrintable (take (i + 1) lines)
 printable_more lines i d h a p =

@@ -1,4 +1,4 @@
--- A text has one reading: one list of lines, or one first fault.
+-- a text has one reading: one list of lines, or one first fault
 use Rattle.std.proofs.Common.{◌≡◌, ℕ, ◌⊎◌, List, take, refl, sym, ◌∙◌, ap, subst, inl, inr, Result, Ok, Err}
 use Rattle.first_fault.proofs.Faults.{one_fault, no_fault}
 use Rattle.first_fault.proofs.Machines.{one_value, accepted_or_fault}

@@ -1,4 +1,4 @@
--- The kinds of lines that a text spells are at most 4.
+-- the kinds of lines that a text spells are at most 4
 use Rattle.std.proofs.Common.{◌≡◌, ℕ, ◌≤◌, List, [], ◌++◌, All, sym, subst, Option, Some, None}
 use Rattle.std.specs.Prelude.{option_to_list}
 use Rattle.std.proofs.lemmas.List.Elements.{All-nil, All-cons, All-append}

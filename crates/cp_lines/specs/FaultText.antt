@@ -1,4 +1,4 @@
--- A fault as it is shown.
+-- a fault as it is shown
 use Rattle.std.specs.Prelude.{ℕ, List, ◌++◌, codes}
 use Rattle.std.specs.Fmt.{decimal}
 use Rattle.cp_lines.specs.declared.fault.CpCause.{CpCause}
@@ -12,4 +12,5 @@ cause_word Ended = codes "ended"
 
 -- the place and the cause, in one line
 abbrev pub fault_text : CpFault → List ℕ
-fault_text fault = codes "cp fault at line " ++ decimal fault.line ++ codes " column " ++ decimal fault.column ++ codes ": " ++ cause_word fault.cause
+fault_text fault = codes "cp fault at line " ++ decimal fault.line ++ codes " column "
+    ++ decimal fault.column ++ codes ": " ++ cause_word fault.cause

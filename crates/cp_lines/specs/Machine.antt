@@ -1,4 +1,4 @@
--- CP text read byte by byte: what each byte makes of a reader, where it can stand there.
+-- CP text read byte by byte: what each byte makes of a reader, where it can stand there
 use Rattle.std.specs.Prelude.{ℕ, ◌-◌, ◌==◌, ◌||◌, nat_lt, List, [], ◌∷◌, ◌++◌, length, Option, Some, None, option_map, option_and_then, if◌then◌else◌}
 use Rattle.std.specs.Int.{is_in_range}
 use Rattle.json_tree.specs.Scan.{begins_number, is_number}
@@ -24,11 +24,21 @@ line_of kind _ = None
 
 -- the number in hand put to those of the line, where it is whole
 abbrev pub closed : Reader → Option Reader
-closed s = if is_number s.number then Some (record s { numbers = s.numbers ++ s.number ∷ []; number = []; phase = Gap }) else None
+closed s = if is_number s.number then Some (record s {
+  numbers = s.numbers
+      ++ s.number ∷ [];
+  number = [];
+  phase = Gap;
+}) else None
 
 -- a line made of the kind and the numbers, where these are four
 abbrev pub with_line : Reader → Option Reader
-with_line s = option_map (λ l. record s { lines = s.lines ++ l ∷ []; numbers = []; phase = Fresh }) (line_of s.kind s.numbers)
+with_line s = option_map (λ l. record s {
+  lines = s.lines
+      ++ l ∷ [];
+  numbers = [];
+  phase = Fresh;
+}) (line_of s.kind s.numbers)
 
 -- the line ended, where it may end
 abbrev pub ended : Reader → Phase → Option Reader
@@ -57,7 +67,8 @@ at_return s phase = option_map {T = Reader} {U = Reader} (λ t. record t { phase
 
 -- after a byte that some number has there
 abbrev pub at_number_byte : Reader → ℕ → Option Reader
-at_number_byte s b = if begins_number (s.number ++ b ∷ []) then Some (record s { number = s.number ++ b ∷ []; phase = Number }) else None
+at_number_byte s b = if begins_number (s.number
+    ++ b ∷ []) then Some (record s { number = s.number ++ b ∷ []; phase = Number }) else None
 
 -- after a byte that is the kind or part of a number
 abbrev pub at_other : Reader → ℕ → Phase → Option Reader

@@ -1,4 +1,4 @@
--- Lines and columns, both counted from 1.
+-- lines and columns, both counted from 1
 use Rattle.std.specs.Prelude.{ℕ, ◌+◌, ◌==◌, List, count_by, not}
 use Rattle.std.specs.List.{suffix_len}
 

@@ -1,4 +1,4 @@
--- What reading a text may answer.
+-- what reading a text may answer
 use Rattle.std.specs.Prelude.{◌≡◌, ℕ, List, take, Result, Ok, Err}
 use Rattle.first_fault.specs.FirstFault as first
 use Rattle.cp_lines.specs.CpText.{CpText}
@@ -23,7 +23,8 @@ IsFaultAt text p cause = first.IsFirstFault CpText text p (stop_of cause)
 
 -- the fault names the first fault of the text by its line and column
 abbrev pub NamesFirstFault : List ℕ → CpFault → Type 0
-NamesFirstFault text fault = (p : ℕ) × IsFaultAt text p fault.cause × (fault.line ≡ line_at (take p text)) × (fault.column ≡ column_at (take p text))
+NamesFirstFault text fault = (p : ℕ) × IsFaultAt text p fault.cause
+    × (fault.line ≡ line_at (take p text)) × (fault.column ≡ column_at (take p text))
 
 -- lines that the text spells, its first fault, or want of memory
 abbrev pub Reads : List ℕ → Result (List CpLine) CpReadFault → Type 0

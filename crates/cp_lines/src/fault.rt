@@ -4,6 +4,7 @@ ghost use Rattle.cp_lines.specs.Place.{line_at, column_at};
 use fold_base::MOST_BYTES;
 use std::alloc::AllocError;
 use std::fmt;
+use thiserror::Error;
 
 /// Where a text stops being CP text, and why.
 #[derive(Clone, Copy, Debug, PartialEq, Eq)]
@@ -23,9 +24,14 @@ pub enum CpCause {
     Ended,
 }
 
-#[derive(Clone, Copy, Debug, PartialEq, Eq)]
+/// Why a text gives no lines.
+#[derive(Clone, Copy, Debug, PartialEq, Eq, Error)]
 pub enum CpReadFault {
+    /// The text is no CP text.
+    #[error(transparent)]
     Text(CpFault),
+    /// Memory was refused, and nothing is known of the text.
+    #[error(transparent)]
     Memory(AllocError),
 }
 
@@ -68,6 +74,8 @@ impl fmt::Display for CpFault {
         write!(f, "cp fault at line {line} column {column}: {cause}")
     }
 }
+
+impl std::error::Error for CpFault {}
 
 impl CpFault {
     /// The fault at a place of the text, counted in bytes from 0.

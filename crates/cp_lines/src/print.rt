@@ -1,6 +1,6 @@
 ghost use Rattle.std.specs.Prelude.{◌≡◌, ◌≤◌, ◌⊎◌, ◌++◌, List, Result, All, IfOk, OnOk, string_bytes};
 ghost use Rattle.cp_lines.specs.CpText.{CpText};
-ghost use Rattle.cp_lines.specs.Print.{IsPrintable, spaced, printed_line, printed};
+ghost use Rattle.cp_lines.specs.Print.{IsPrintable, spaced, printed_line, printed_form};
 ghost use Rattle.cp_lines.specs.Reads.{Reads, LacksMemory};
 ghost use Rattle.cp_lines.specs.declared.line.CpLine.{CpLine};
 ghost use Rattle.json_tree.specs.Number.{IsNumber};
@@ -14,7 +14,7 @@ use std::alloc::{AllocError, Global};
 /// The text of the lines, each with single spaces and a line feed, the numbers as they were spelled.
 pub fn print_cp(alloc: Global, lines: &List<CpLine>) -> Result<Text, AllocError>
     requires { All (λ line. line.kind ≤ 4) lines.now }
-    ensures text { IfOk result (λ text. text ≡ printed lines.now) }
+    ensures text { IfOk result (λ text. text ≡ printed_form lines.now) }
     ensures spells { IfOk result (λ text. CpText text lines.now) }
 {
     let lines = lines.as_slice();
@@ -28,9 +28,9 @@ pub fn print_cp(alloc: Global, lines: &List<CpLine>) -> Result<Text, AllocError>
 /// The printed text of lines spells them, and what `read_cp` may answer for it is these lines, or want of memory.
 /// `read_cp` itself takes printed texts up to `MOST_BYTES`.
 pub fn reads_back()
-    ensures spells { (lines : List CpLine) → All IsPrintable lines → CpText (printed lines) lines }
+    ensures spells { (lines : List CpLine) → All IsPrintable lines → CpText (printed_form lines) lines }
     ensures answer { (lines : List CpLine) (answer : Result (List CpLine) CpReadFault) → All IsPrintable lines
-        → Reads (printed lines) answer → (answer ≡ Ok lines) ⊎ LacksMemory answer }
+        → Reads (printed_form lines) answer → (answer ≡ Ok lines) ⊎ LacksMemory answer }
 {}
 
 fn put_line(out: &mut String, line: &CpLine) -> Result<(), AllocError>
