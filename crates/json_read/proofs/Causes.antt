@@ -1,4 +1,4 @@
--- The cause that the machine sees where it stops is the cause of the text's first fault.
+-- the cause that the machine sees where it stops is the cause of the text's first fault
 use Rattle.std.proofs.Common.{◌≡◌, ℕ, ◌+◌, ◌<◌, ◌≤◌, List, [], ◌∷◌, ◌++◌, length, take, refl, sym, ◌∙◌, ap, subst, append_assoc, arith, ◌⊎◌, inl, inr, Bool, true, false, Some, None, length-append, encode_utf8_all}
 use Rattle.std.specs.Prelude.{nat_lt, if◌then◌else◌, slice_index, ◌==◌, ◌&&◌, ◌||◌}
 use Rattle.std.proofs.lemmas.Bool.{and_parts}

@@ -1,4 +1,4 @@
--- What the machine reads of a text that comes in pieces, and the fault where it stops.
+-- what the machine reads of a text that comes in pieces, and the fault where it stops
 use Rattle.std.proofs.Common.{◌≡◌, ℕ, ◌+◌, ◌<◌, List, ◌++◌, length, take, refl, true, sym, ◌∙◌, ap, subst, arith, inl, inr, Some, None, Ok, Err, length-append}
 use Rattle.std.specs.Prelude.{nat_lt, slice_index}
 use Rattle.std.proofs.lemmas.List.{take-append-le, get_or_append_left, get_or-append-add}
@@ -13,14 +13,18 @@ use Rattle.json_machine.specs.Machine.{State, step, finish, start}
 use Rattle.json_machine.specs.Due.{ValueIsDue}
 use Rattle.json_machine.proofs.Decided.{decides}
 use Rattle.json_read.specs.Causes.{OpensTooDeep, RepeatsKey, IsFaultAt, NamesFirstFault}
-use Rattle.json_read.specs.Reads.{FeedAnswers, FinishAnswers}
+use Rattle.json_read.specs.Reader.{HasRead, HasReadBy}
+use Rattle.json_read.specs.Reads.{FeedAnswers, FinishAnswers, UnlessMemory}
 use Rattle.json_read.specs.Stops.{cause_of, IsStop}
 use Rattle.json_read.proofs.Causes.{cause_not_ended, fault_cause}
 use Rattle.json_read.proofs.Readings.{begins_not}
 use Rattle.json_read.specs.declared.fault.JsonCause.{JsonCause}
 use Rattle.json_read.specs.declared.fault.JsonCause.TheVariants.{Byte, Ended, KeyTwice, Deep}
 use Rattle.json_read.specs.declared.fault.JsonFault.{JsonFault}
-use Rattle.json_read.specs.declared.fault.JsonReadFault.TheVariants.{Text}
+use Rattle.json_read.specs.declared.fault.JsonReadFault.{JsonReadFault}
+use Rattle.json_read.specs.declared.fault.JsonReadFault.TheVariants.{Text, Memory}
+use Rattle.json_read.specs.declared.machine.Machine.{Machine}
+use Rattle.json_read.specs.declared.reader.JsonReader.{JsonReader}
 
 -- ---- a fault at a byte stays, with its cause
 
@@ -74,6 +78,26 @@ end_fault t s e n = fault_at_end Spells step finish start decides t s e n
 -- a fault that was found before
 pub again_answers : (t more : List ℕ) (fault : JsonFault) → (fault.cause ≡ Ended → ⊥) → NamesFirstFault t fault → FeedAnswers (t ++ more) (Err (Text fault))
 again_answers t more fault n f = let on = fault_on t more fault.place fault.cause n f in (on, begins_not (t ++ more) fault.place fault.cause n on)
+
+-- a fault at which the reader has stopped
+pub stopped_reads : (fault : JsonReadFault) (machine : Machine) (t more : List ℕ) → HasReadBy (Some fault) machine t → HasReadBy (Some fault) machine (t ++ more)
+stopped_reads (Text fault) machine t more r = (fault_on t more fault.place fault.cause r.1 r.0, r.1)
+stopped_reads (Memory e) machine t more r = absurd r
+
+pub stopped_answers : (fault : JsonReadFault) (machine : Machine) (t more : List ℕ) → HasReadBy (Some fault) machine t → FeedAnswers (t ++ more) (Err fault)
+stopped_answers (Text fault) machine t more r = again_answers t more fault r.1 r.0
+stopped_answers (Memory e) machine t more r = absurd r
+
+stopped_ends : (fault : JsonReadFault) (machine : Machine) (t : List ℕ) → HasReadBy (Some fault) machine t → FinishAnswers t (Err fault)
+stopped_ends (Text fault) machine t r = r.0
+stopped_ends (Memory e) machine t r = absurd r
+
+pub stopped_finish : (reader : JsonReader) (fault : JsonReadFault) (t : List ℕ) → reader.stopped ≡ Some fault → HasRead reader t → FinishAnswers t (Err fault)
+stopped_finish reader fault t e r = stopped_ends fault reader.machine t (subst (λ s. HasReadBy s reader.machine t) e r.1)
+
+pub unless_memory : (T : Type 0) (fault : JsonReadFault) (P : Type 0) → P → UnlessMemory {T = T} (Err fault) P
+unless_memory T (Text fault) P p = p
+unless_memory T (Memory e) P p = tt
 
 -- a fault in the piece
 pub stop_answers : (t piece : List ℕ) (s : State) (p : ℕ) (fault : JsonFault) → steps step start t ≡ Some s → IsStop s piece p fault.cause → fault.place ≡ length t + p → FeedAnswers (t ++ piece) (Err (Text fault))

@@ -1,4 +1,4 @@
--- What a look for a key finds, after one more member.
+-- what a look for a key finds, after one more member
 use Rattle.std.proofs.Common.{◌≡◌, ℕ, zero, suc, List, [], ◌∷◌, ◌++◌, length, sym, ◌∙◌, ap, refl, Bool, true, false, cond, ◌||◌, eqb, Option, Some, None, bytes_eq}
 use Rattle.std.specs.Prelude.{is_none}
 use Rattle.std.specs.BTreeMap as map

@@ -1,4 +1,4 @@
--- What is open, after one more and one fewer.
+-- what is open, after one more and one fewer
 use Rattle.std.proofs.Common.{◌≡◌, List, [], ◌∷◌, ◌++◌, length, ap, ◌∙◌}
 use Rattle.std.specs.Prelude.{map, reverse}
 use Rattle.std.proofs.lemmas.List.{reverse-append, length-reverse, length-map}

@@ -1,4 +1,4 @@
--- A text has one reading: one tree, or one first fault.
+-- a text has one reading: one tree, or one first fault
 use Rattle.std.proofs.Common.{◌≡◌, ℕ, ◌+◌, ◌⊎◌, List, take, refl, ◌∙◌, ap, subst, arith, inl, inr, true, Some, None, Result, Ok, Err}
 use Rattle.std.specs.Prelude.{slice_index, is_some}
 use Rattle.std.proofs.lemmas.List.{take_more}
@@ -7,7 +7,7 @@ use Rattle.first_fault.specs.FirstFault as first
 use Rattle.first_fault.specs.Machine.{steps}
 use Rattle.first_fault.proofs.Faults.{one_fault, no_fault, stopped}
 use Rattle.first_fault.proofs.Machines.{one_value, accepted_or_fault, tests_begins, steps-snoc}
-use Rattle.json_tree.specs.Printed.{printed}
+use Rattle.json_tree.specs.PrintedForm.{printed_form}
 use Rattle.json_tree.specs.Spells.{Spells}
 use Rattle.json_tree.specs.Tree.{HasValidTexts, IsProper}
 use Rattle.json_tree.specs.declared.tree.Json.{Json}
@@ -127,5 +127,5 @@ refused_finish text fault (Err (Text told)) n r = inl (ap (λ f. Err (Text f)) (
 refused_finish text fault (Err (Memory e)) n r = inr tt
 
 -- at the end of the printed form of a proper tree
-pub printed_reads_back : (tree : Json) (answer : Result Json JsonReadFault) → HasValidTexts tree → IsProper tree → FinishAnswers (printed tree) answer → (answer ≡ Ok tree) ⊎ LacksMemory answer
-printed_reads_back tree answer texts proper r = accepted_finish (printed tree) tree answer (printed_spells tree texts proper) r
+pub printed_reads_back : (tree : Json) (answer : Result Json JsonReadFault) → HasValidTexts tree → IsProper tree → FinishAnswers (printed_form tree) answer → (answer ≡ Ok tree) ⊎ LacksMemory answer
+printed_reads_back tree answer texts proper r = accepted_finish (printed_form tree) tree answer (printed_spells tree texts proper) r

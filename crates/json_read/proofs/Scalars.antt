@@ -1,4 +1,4 @@
--- The bytes of one character's UTF-8 lead to scalar values.
+-- the bytes of one character's UTF-8 lead to scalar values
 use Rattle.std.proofs.Common.{ℕ, zero, suc, ◌+◌, ◌-◌, ◌*◌, ◌<◌, ◌≤◌, inl, inr, arith}
 use Rattle.json_read.specs.WordView.{IsSound, LeadsToScalars}
 use Rattle.json_read.specs.declared.character.Part.TheVariants.{Encoded}

@@ -1,4 +1,4 @@
--- A fault as it is shown.
+-- a fault as it is shown
 use Rattle.std.specs.Prelude.{ℕ, List, ◌++◌, codes}
 use Rattle.std.specs.Fmt.{decimal}
 use Rattle.json_read.specs.declared.fault.JsonCause.{JsonCause}
@@ -14,4 +14,5 @@ cause_words Deep = codes "deep"
 
 -- the place and the cause, in one line
 abbrev pub fault_text : JsonFault → List ℕ
-fault_text fault = codes "json fault at " ++ decimal fault.place ++ codes ": " ++ cause_words fault.cause
+fault_text fault = codes "json fault at " ++ decimal fault.place ++ codes ": "
+    ++ cause_words fault.cause

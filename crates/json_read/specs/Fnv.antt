@@ -1,4 +1,4 @@
--- The hash FNV-1a.
+-- the hash FNV-1a
 use Rattle.std.specs.Prelude.{ℕ, ◌*◌, ◌%◌, ◌^◌, List, fold}
 use Rattle.std.specs.Int.Bits.{bit_xor}
 

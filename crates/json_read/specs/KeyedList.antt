@@ -1,4 +1,4 @@
--- A list of members with an index of their keys.
+-- a list of members with an index of their keys
 use Rattle.std.specs.Prelude.{◌≡◌, ℕ, List}
 use Rattle.json_machine.specs.Machine.{has_key}
 use Rattle.json_read.specs.Keys.{finds}

@@ -1,4 +1,4 @@
--- A look for a key among the members of an object.
+-- a look for a key among the members of an object
 use Rattle.std.specs.Prelude.{ℕ, Bool, false, ◌||◌, List, slice_get}
 use Rattle.std.specs.BTreeMap as map
 use Rattle.std.specs.BTreeSet.{contains_text}

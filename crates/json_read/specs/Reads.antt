@@ -1,4 +1,4 @@
--- What reading a text may answer.
+-- what reading a text may answer
 use Rattle.std.specs.Prelude.{ℕ, List, Result, Ok, Err}
 use Rattle.first_fault.specs.FirstFault.{Begins}
 use Rattle.json_tree.specs.Spells.{Spells}

@@ -1,4 +1,4 @@
--- What a byte is between values, in code and in the machine.
+-- what a byte is between values, in code and in the machine
 use Rattle.json_machine.specs.Machine as machine
 use Rattle.json_read.specs.declared.sign.Sign.{Sign}
 use Rattle.json_read.specs.declared.sign.Sign.TheVariants.{Blank, Quote, Open, Close, OpenBrace, CloseBrace, Comma, Colon, Other}

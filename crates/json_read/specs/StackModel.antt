@@ -1,4 +1,4 @@
--- What a stack is to the machine.
+-- what a stack is to the machine
 use Rattle.std.specs.Prelude.{◌≡◌, List, [], None}
 use Rattle.json_machine.specs.Machine.{Frame}
 use Rattle.json_read.specs.Frames.{opened}

@@ -1,4 +1,4 @@
--- Where the machine stops within a piece of a text, and the cause that it sees there.
+-- where the machine stops within a piece of a text, and the cause that it sees there
 use Rattle.std.specs.Prelude.{◌≡◌, ◌<◌, ℕ, ◌==◌, ◌&&◌, ◌||◌, List, length, take, slice_index, Some, None, if◌then◌else◌}
 use Rattle.first_fault.specs.Machine.{steps}
 use Rattle.json_machine.specs.Machine.{Phase, ValueDue, FirstValueDue, InKey, State, step}
@@ -23,5 +23,6 @@ cause_of phase b = Byte
 
 -- from s the machine reads p bytes of the piece and can't read the next
 abbrev pub IsStop : State → List ℕ → ℕ → JsonCause → Type 0
-IsStop s piece p cause = (p < length piece) × (last : State) × (steps step s (take p piece) ≡ Some last) × (step last (slice_index piece p) ≡ None)
+IsStop s piece p cause = (p < length piece) × (last : State)
+    × (steps step s (take p piece) ≡ Some last) × (step last (slice_index piece p) ≡ None)
     × (cause ≡ cause_of last.phase (slice_index piece p))

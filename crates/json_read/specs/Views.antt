@@ -1,4 +1,4 @@
--- What the reading machine in code is to the machine of definitions.
+-- what the reading machine in code is to the machine of definitions
 use Rattle.std.specs.Prelude.{ℕ, List}
 use Rattle.json_tree.specs.declared.tree.Json.{Json, Null, Truth}
 use Rattle.json_machine.specs.Machine as machine

@@ -1,4 +1,4 @@
--- What a scanner of words is to the machine.
+-- what a scanner of words is to the machine
 use Rattle.std.specs.Prelude.{string_bytes}
 use Rattle.json_machine.specs.WordScan.{WordState}
 use Rattle.json_read.specs.WordView.{shown}

@@ -1,4 +1,4 @@
--- What a part of a character in code is to the machine that reads words, and which parts can go on.
+-- what a part of a character in code is to the machine that reads words, and which parts can go on
 use Rattle.std.specs.Prelude.{ℕ, zero, suc, ◌+◌, ◌-◌, ◌*◌, ◌<◌, ◌≤◌, ◌⊎◌, Option, Some, None}
 use Rattle.json_tree.specs.Word.{IsHighSurrogate}
 use Rattle.json_machine.specs.WordScan as machine
@@ -30,7 +30,8 @@ stepped w None = None
 stepped w (Some (More part)) = Some (in_part w (shown part))
 stepped w (Some (Whole c)) = Some (put w c)
 
--- The values from `first` up to `past` become scalar values alone, with so many more bytes of UTF-8, which add six bits each.
+-- the values from `first` up to `past` become scalar values alone, with so many more bytes of
+-- UTF-8, which add six bits each
 abbrev pub LeadsToScalars : ℕ → ℕ → ℕ → Type 0
 LeadsToScalars zero first past = (past ≤ 55296) ⊎ ((57344 ≤ first) × (past ≤ 1114112))
 LeadsToScalars (suc later) first past = LeadsToScalars later (first * 64) (past * 64)
@@ -38,7 +39,8 @@ LeadsToScalars (suc later) first past = LeadsToScalars later (first * 64) (past 
 -- whatever bytes the part goes on with, the character is a scalar value
 abbrev pub IsSound : Part → Type 0
 IsSound Between = Unit {0}
-IsSound (Encoded later low high code) = (128 ≤ low) × (high ≤ 191) × LeadsToScalars later (code * 64 + (low - 128)) (code * 64 + (high - 127))
+IsSound (Encoded later low high code) = (128 ≤ low) × (high ≤ 191)
+    × LeadsToScalars later (code * 64 + (low - 128)) (code * 64 + (high - 127))
 IsSound Escape = Unit {0}
 IsSound Unit0 = Unit {0}
 IsSound (Unit1 value) = value < 16

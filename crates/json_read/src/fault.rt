@@ -2,6 +2,7 @@ ghost use Rattle.std.specs.Prelude.{◌≡◌};
 
 use std::alloc::AllocError;
 use std::fmt;
+use thiserror::Error;
 
 /// Where a text stops being JSON text, and why.
 #[derive(Clone, Copy, Debug, PartialEq, Eq)]
@@ -25,11 +26,13 @@ pub enum JsonCause {
 }
 
 /// Why a reader gives no tree.
-#[derive(Clone, Copy, Debug, PartialEq, Eq)]
+#[derive(Clone, Copy, Debug, PartialEq, Eq, Error)]
 pub enum JsonReadFault {
     /// The text is no JSON text.
+    #[error(transparent)]
     Text(JsonFault),
     /// Memory was refused, and nothing is known of the text.
+    #[error(transparent)]
     Memory(AllocError),
 }
 
@@ -70,3 +73,5 @@ impl fmt::Display for JsonFault {
         write!(f, "json fault at {place}: {cause}")
     }
 }
+
+impl std::error::Error for JsonFault {}

@@ -1,5 +1,5 @@
 ghost use Rattle.std.specs.Prelude.{◌≡◌, ◌≢◌, ◌⊎◌, ◌++◌, [], ◌∷◌, ℕ, List, Result, Ok, codes, replicate};
-ghost use Rattle.json_tree.specs.Printed.{printed};
+ghost use Rattle.json_tree.specs.PrintedForm.{printed_form};
 ghost use Rattle.json_tree.specs.Spells.{Spells};
 ghost use Rattle.json_tree.specs.Tree.{HasValidTexts, IsProper};
 ghost use Rattle.json_tree.specs.declared.tree.Json.{Json};
@@ -22,7 +22,7 @@ pub fn one_reading()
 /// at most [`fold_base::MOST_BYTES`] bytes, so this speaks of trees whose printed form is no longer.
 pub fn reads_back()
     ensures { (tree : Json) (answer : Result Json JsonReadFault) → HasValidTexts tree → IsProper tree
-        → FinishAnswers (printed tree) answer → (answer ≡ Ok tree) ⊎ LacksMemory answer }
+        → FinishAnswers (printed_form tree) answer → (answer ≡ Ok tree) ⊎ LacksMemory answer }
 {}
 
 /// Short texts and their first faults.

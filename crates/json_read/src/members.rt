@@ -63,6 +63,8 @@ impl KeyedMembers {
     pub fn into_list(self) -> List<Member>
         ensures { result ≡ self }
     {
-        self.list
+        let mut list = self.list;
+        list.fit();
+        list
     }
 }

@@ -80,14 +80,15 @@ impl Stack {
         Ok(None)
     }
 
-    /// Closes the innermost and gives its values, where it is a list.
+    /// Closes the innermost and gives its values in no more room than they need, where it is a list.
     #[tactic(auto, using(crate::proofs::Opened::around_more))]
     pub fn close_list(&mut self) -> Option<List<Json>>
         ensures { closed_list self.old ≡ option_map (λ values. with_value (trees.List values) self.new) result }
     {
         match self.innermost.take() {
-            Some(Frame::List(values)) => {
+            Some(Frame::List(mut values)) => {
                 self.innermost = self.outer.pop();
+                values.fit();
                 Some(values)
             }
             other => {

@@ -1,49 +1,48 @@
-use Rattle.std.proofs.Common.{◌≡◌, ◌+◌, ◌++◌, sym, subst, arith, length-append, Some, Ok, Err}
+use Rattle.std.proofs.Common.{◌≡◌, ℕ, ◌+◌, List, ◌++◌, length, sym, subst, arith, length-append, Some, Ok, Err}
 use Rattle.first_fault.specs.Machine.{steps}
 use Rattle.first_fault.proofs.Machines.{steps_join}
 use Rattle.json_machine.specs.Machine.{step, start}
-use Rattle.json_read.specs.Reader.{HasReadBy}
+use Rattle.json_read.specs.Reader.{HasRead, HasReadBy}
 use Rattle.json_read.specs.Stops.{IsStop}
 use Rattle.json_read.specs.Views.{state_of}
 use Rattle.json_read.specs.declared.fault.JsonReadFault.TheVariants.{Text}
-use Rattle.json_read.specs.declared.reader.Health.TheVariants.{Faulty}
-use Rattle.json_read.proofs.Feeds.{fault_on, go_answers, stop_answers, stop_fault, stop_not_ended, again_answers}
+use Rattle.json_read.proofs.Feeds.{go_answers, stop_answers, stop_fault, stop_not_ended, stopped_answers, stopped_reads, unless_memory}
 use Rattle.json_read.proofs.Readings.{refused_feed}
 use Rattle.json_read.proofs.reader.JsonReader.feed.Goals as goal
 
-pub returns-in-Faulty-clause-read : goal.returns-in-Faulty-clause-read
-returns-in-Faulty-clause-read c = λ text r.
-    let found = c.in-Faulty.fault in
-    let old : HasReadBy (Faulty found) c.args.self.now.machine text = subst (λ h. HasReadBy h c.args.self.now.machine text) c.in-Faulty.is r.1 in (
+pub returns-in-Some-clause-read : goal.returns-in-Some-clause-read
+returns-in-Some-clause-read c = unless_memory (Unit {0}) c.in-Some.fault ((text : List ℕ) → HasRead c.args.self.now text → HasRead (record c.args.self.now { count = c.args.self.now.count + length c.args.piece.now }) (text ++ c.args.piece.now)) (λ text r.
+    let machine = c.args.self.now.machine in
+    let old : HasReadBy (Some c.in-Some.fault) machine text = subst (λ s. HasReadBy s machine text) c.in-Some.is r.1 in (
       rw length-append (omega arith),
-      subst (λ h. HasReadBy h c.args.self.now.machine (text ++ c.args.piece.now)) (sym c.in-Faulty.is) (fault_on text c.args.piece.now found.place found.cause old.1 old.0, old.1),
-    )
+      subst (λ s. HasReadBy s machine (text ++ c.args.piece.now)) (sym c.in-Some.is) (stopped_reads c.in-Some.fault machine text c.args.piece.now old),
+    ))
 
-pub returns-in-Faulty-clause-answer : goal.returns-in-Faulty-clause-answer
-returns-in-Faulty-clause-answer c = λ text r.
-    let old : HasReadBy (Faulty c.in-Faulty.fault) c.args.self.now.machine text = subst (λ h. HasReadBy h c.args.self.now.machine text) c.in-Faulty.is r.1 in
-    again_answers text c.args.piece.now c.in-Faulty.fault old.1 old.0
+pub returns-in-Some-clause-answer : goal.returns-in-Some-clause-answer
+returns-in-Some-clause-answer c = λ text r.
+    let machine = c.args.self.now.machine in
+    stopped_answers c.in-Some.fault machine text c.args.piece.now (subst (λ s. HasReadBy s machine text) c.in-Some.is r.1)
 
-pub returns-in-Faulty-clause-refused : goal.returns-in-Faulty-clause-refused
-returns-in-Faulty-clause-refused c = λ text fault r n more.
-    let old : HasReadBy (Faulty c.in-Faulty.fault) c.args.self.now.machine text = subst (λ h. HasReadBy h c.args.self.now.machine text) c.in-Faulty.is r.1 in
-    refused_feed (text ++ c.args.piece.now) fault (Err (Text c.in-Faulty.fault)) n more (again_answers text c.args.piece.now c.in-Faulty.fault old.1 old.0)
+pub returns-in-Some-clause-refused : goal.returns-in-Some-clause-refused
+returns-in-Some-clause-refused c = λ text fault r n more.
+    let machine = c.args.self.now.machine in
+    refused_feed (text ++ c.args.piece.now) fault (Err c.in-Some.fault) n more (stopped_answers c.in-Some.fault machine text c.args.piece.now (subst (λ s. HasReadBy s machine text) c.in-Some.is r.1))
 
 pub returns-in-Ok-None-clause-read : goal.returns-in-Ok-None-clause-read
 returns-in-Ok-None-clause-read c = λ text r.
     let from = state_of c.args.self.now.machine in
     let next = state_of c.run.new.machine in
-    let old : steps step start text ≡ Some from = subst (λ h. HasReadBy h c.args.self.now.machine text) c.in-Going.is r.1 in
+    let old : steps step start text ≡ Some from = subst (λ s. HasReadBy s c.args.self.now.machine text) c.in-None.is r.1 in
     let went : steps step from c.args.piece.now ≡ Some next = rw c.in-Ok-None.field-0-is at c.in-Ok-None.ensures in (
       rw length-append (omega arith),
-      subst (λ h. HasReadBy h c.run.new.machine (text ++ c.args.piece.now)) (sym c.in-Going.is) (steps_join step start from next text c.args.piece.now old went),
+      subst (λ s. HasReadBy s c.run.new.machine (text ++ c.args.piece.now)) (sym c.in-None.is) (steps_join step start from next text c.args.piece.now old went),
     )
 
 pub returns-in-Ok-None-clause-answer : goal.returns-in-Ok-None-clause-answer
 returns-in-Ok-None-clause-answer c = λ text r.
     let from = state_of c.args.self.now.machine in
     let next = state_of c.run.new.machine in
-    let old : steps step start text ≡ Some from = subst (λ h. HasReadBy h c.args.self.now.machine text) c.in-Going.is r.1 in
+    let old : steps step start text ≡ Some from = subst (λ s. HasReadBy s c.args.self.now.machine text) c.in-None.is r.1 in
     let went : steps step from c.args.piece.now ≡ Some next = rw c.in-Ok-None.field-0-is at c.in-Ok-None.ensures in
     go_answers text c.args.piece.now from next old went
 
@@ -51,7 +50,7 @@ pub returns-in-Ok-None-clause-refused : goal.returns-in-Ok-None-clause-refused
 returns-in-Ok-None-clause-refused c = λ text fault r n more.
     let from = state_of c.args.self.now.machine in
     let next = state_of c.run.new.machine in
-    let old : steps step start text ≡ Some from = subst (λ h. HasReadBy h c.args.self.now.machine text) c.in-Going.is r.1 in
+    let old : steps step start text ≡ Some from = subst (λ s. HasReadBy s c.args.self.now.machine text) c.in-None.is r.1 in
     let went : steps step from c.args.piece.now ≡ Some next = rw c.in-Ok-None.field-0-is at c.in-Ok-None.ensures in
     refused_feed (text ++ c.args.piece.now) fault (Ok tt) n more (go_answers text c.args.piece.now from next old went)
 
@@ -60,7 +59,7 @@ returns-in-Ok-Some-clause-read c = λ text r.
     let from = state_of c.args.self.now.machine in
     let place = c.in-Ok-Some.place in
     let cause = c.in-Ok-Some.cause in
-    let old : steps step start text ≡ Some from = subst (λ h. HasReadBy h c.args.self.now.machine text) c.in-Going.is r.1 in
+    let old : steps step start text ≡ Some from = subst (λ s. HasReadBy s c.args.self.now.machine text) c.in-None.is r.1 in
     let stop : IsStop from c.args.piece.now place cause = rw c.in-Ok-Some.field-0-is at c.in-Ok-Some.ensures in (
       rw length-append (omega arith),
       (rw r.0 (stop_fault text c.args.piece.now from place cause old stop), stop_not_ended from c.args.piece.now place cause stop),
@@ -71,7 +70,7 @@ returns-in-Ok-Some-clause-answer c = λ text r.
     let from = state_of c.args.self.now.machine in
     let place = c.in-Ok-Some.place in
     let cause = c.in-Ok-Some.cause in
-    let old : steps step start text ≡ Some from = subst (λ h. HasReadBy h c.args.self.now.machine text) c.in-Going.is r.1 in
+    let old : steps step start text ≡ Some from = subst (λ s. HasReadBy s c.args.self.now.machine text) c.in-None.is r.1 in
     let stop : IsStop from c.args.piece.now place cause = rw c.in-Ok-Some.field-0-is at c.in-Ok-Some.ensures in
     stop_answers text c.args.piece.now from place (record { place = c.args.self.now.count + place; cause = cause }) old stop (omega (arith, r.0))
 
@@ -80,7 +79,7 @@ returns-in-Ok-Some-clause-refused c = λ text fault r n more.
     let from = state_of c.args.self.now.machine in
     let place = c.in-Ok-Some.place in
     let cause = c.in-Ok-Some.cause in
-    let old : steps step start text ≡ Some from = subst (λ h. HasReadBy h c.args.self.now.machine text) c.in-Going.is r.1 in
+    let old : steps step start text ≡ Some from = subst (λ s. HasReadBy s c.args.self.now.machine text) c.in-None.is r.1 in
     let stop : IsStop from c.args.piece.now place cause = rw c.in-Ok-Some.field-0-is at c.in-Ok-Some.ensures in
     refused_feed (text ++ c.args.piece.now) fault (Err (Text (record { place = c.args.self.now.count + place; cause = cause }))) n more
     (stop_answers text c.args.piece.now from place (record { place = c.args.self.now.count + place; cause = cause }) old stop (omega (arith, r.0)))
