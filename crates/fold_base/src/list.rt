@@ -4,6 +4,10 @@ ghost use Rattle.std.specs.Option.{option_copied};
 use crate::PieceTaker;
 use std::alloc::{AllocError, AllocFailed, Global};
 use std::marker::Model;
+use std::mem;
+
+/// A list of at most so many items is moved when it is fitted.
+const FEW: usize = 32;
 
 /// A `Vec` that contracts see as the list of its elements.
 #[derive(Debug, Drop)]
@@ -56,7 +60,27 @@ impl<T> List<T> {
     pub fn fit(&mut self)
         ensures { self.new ≡ self.old }
     {
-        self.items.shrink_to_fit();
+        let len = self.items.len();
+        if len > FEW {
+            self.items.shrink_to_fit();
+        } else if len < self.items.capacity() {
+            self.move_out();
+        }
+    }
+
+    // Moves the items to memory of their number. If they shrank in place, what is left over beside
+    // each of many small lists would be too small for the next.
+    fn move_out(&mut self)
+        ensures { self.new ≡ self.old }
+    {
+        let alloc = *self.items.allocator();
+        let Ok(mut fitted) = Vec::with_capacity(alloc, self.items.len()) else {
+            return;
+        };
+        if fitted.append(&mut self.items).is_ok() {
+            mem::swap(&mut self.items, &mut fitted);
+        }
+        fitted.destroy_empty();
     }
 
     /// Appends the item, or gives it back and changes nothing.
