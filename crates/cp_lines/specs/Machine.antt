@@ -11,7 +11,11 @@ use Rattle.cp_lines.specs.declared.reader.ByteClass.TheVariants.{Blank, LineFeed
 
 -- what a byte is for lines
 abbrev pub class_of : ℕ → ByteClass
-class_of b = if b == 32 || b == 9 then Blank else if b == 10 then LineFeed else if b == 13 then Return else Other
+class_of b =
+    if b == 32 || b == 9 then Blank else
+    if b == 10 then LineFeed else
+    if b == 13 then Return else
+    Other
 
 -- nothing has been read
 abbrev pub start : Reader
@@ -67,12 +71,16 @@ at_return s phase = option_map {T = Reader} {U = Reader} (λ t. record t { phase
 
 -- after a byte that some number has there
 abbrev pub at_number_byte : Reader → ℕ → Option Reader
-at_number_byte s b = if begins_number (s.number
-    ++ b ∷ []) then Some (record s { number = s.number ++ b ∷ []; phase = Number }) else None
+at_number_byte s b =
+    if begins_number (s.number ++ b ∷ []) then
+    Some (record s { number = s.number ++ b ∷ []; phase = Number }) else
+    None
 
 -- after a byte that is the kind or part of a number
 abbrev pub at_other : Reader → ℕ → Phase → Option Reader
-at_other s b Fresh = if is_in_range 48 52 b then Some (record s { kind = b - 48; phase = Kind }) else None
+at_other s b Fresh =
+    if is_in_range 48 52 b then Some (record s { kind = b - 48; phase = Kind }) else
+    None
 at_other s b Kind = None
 at_other s b Gap = if nat_lt (length s.numbers) 4 then at_number_byte s b else None
 at_other s b Number = at_number_byte s b

@@ -14,8 +14,8 @@ answer step finish s bytes = option_and_then finish (steps step s bytes)
 
 -- the machine answers exactly the values of the grammar, and where it goes on, an accepted text
 -- begins
-pub record Decides {S V : Type 0} (Grammar : List ℕ → V → Type 0) (step : S → ℕ
-    → Option S) (finish : S → Option V) (start : S) : Type 0 where
+pub record Decides {S V : Type 0} (Grammar : List ℕ → V → Type 0)
+    (step : S → ℕ → Option S) (finish : S → Option V) (start : S) : Type 0 where
   pub sound : (t : List ℕ) (s : S) (v : V) → steps step start t ≡ Some s → finish s ≡ Some v
       → Grammar t v
   pub alive : (t : List ℕ) (s : S) → steps step start t ≡ Some s → Begins Grammar t

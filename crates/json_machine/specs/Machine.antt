@@ -110,7 +110,10 @@ after_value s sign = None
 
 -- one more list or object, of which 64 may be open
 abbrev pub pushed : List Frame → Frame → Phase → Option State
-pushed k frame phase = if nat_lt (length k) 64 then Some (record { stack = frame ∷ k; root = None; phase = phase }) else None
+pushed k frame phase =
+    if nat_lt (length k) 64 then
+    Some (record { stack = frame ∷ k; root = None; phase = phase }) else
+    None
 
 abbrev pub at_number : State → ℕ → Option State
 at_number s b = if begins_number (b ∷ []) then Some (in_phase s (InNumber (b ∷ []))) else None
@@ -153,7 +156,9 @@ in_number s text b sign =
 
 -- the end of a word, by its quote
 abbrev pub at_end_of_word : State → WordState → ℕ → Option State
-at_end_of_word s w b = if is_between w.part && b == 34 then Some (with_value (Word w.word) s.stack) else None
+at_end_of_word s w b =
+    if is_between w.part && b == 34 then Some (with_value (Word w.word) s.stack) else
+    None
 
 abbrev pub in_word : State → WordState → ℕ → Option WordState → Option State
 in_word s w b (Some next) = Some (in_phase s (InWord next))
@@ -169,7 +174,9 @@ has_key key members = list_any (λ m. bytes_eq m.key key) members
 abbrev pub keyed : List ℕ → List Frame → Option State
 keyed key [] = None
 keyed key (InList vs ∷ k) = None
-keyed key (InObject ms earlier ∷ k) = if has_key key ms then None else Some (record { stack = InObject ms key ∷ k; root = None; phase = ColonDue })
+keyed key (InObject ms earlier ∷ k) =
+    if has_key key ms then None else
+    Some (record { stack = InObject ms key ∷ k; root = None; phase = ColonDue })
 
 abbrev pub at_end_of_key : State → WordState → ℕ → Option State
 at_end_of_key s w b = if is_between w.part && b == 34 then keyed w.word s.stack else None

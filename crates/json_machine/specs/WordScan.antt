@@ -60,7 +60,9 @@ abbrev pub first_of_four : WordState → ℕ → Option WordState
 first_of_four w b = if is_in_range 240 244 b then Some (with_first_of_four w b) else None
 
 abbrev pub first_of_three : WordState → ℕ → Option WordState
-first_of_three w b = if is_in_range 224 239 b then Some (with_first_of_three w b) else first_of_four w b
+first_of_three w b =
+    if is_in_range 224 239 b then Some (with_first_of_three w b) else
+    first_of_four w b
 
 abbrev pub lead : WordState → ℕ → Option WordState
 lead w b = if is_in_range 194 223 b then Some (with_first_of_two w b) else first_of_three w b
@@ -78,10 +80,14 @@ with_code w zero code = put w code
 with_code w (suc later) code = in_part w (Character later 128 191 code)
 
 abbrev pub in_character : WordState → ℕ → ℕ → ℕ → ℕ → ℕ → Option WordState
-in_character w later low high code b = if is_in_range low high b then Some (with_code w later (code * 64 + (b - 128))) else None
+in_character w later low high code b =
+    if is_in_range low high b then Some (with_code w later (code * 64 + (b - 128))) else
+    None
 
 abbrev pub at_escape : WordState → ℕ → Option WordState
-at_escape w b = if b == 117 then Some (in_part w Unit0) else option_map (λ c. put w c) (escaped_by b)
+at_escape w b =
+    if b == 117 then Some (in_part w Unit0) else
+    option_map (λ c. put w c) (escaped_by b)
 
 -- after a hexadecimal digit of this value
 abbrev pub with_digit : (ℕ → Option WordState) → ℕ → Option WordState
@@ -93,14 +99,18 @@ with_two w value = if is_in_range 220 223 value then None else Some (in_part w (
 
 -- four digits
 abbrev pub with_unit : WordState → ℕ → Option WordState
-with_unit w unit = if is_high_surrogate unit then Some (in_part w (High unit)) else Some (put w unit)
+with_unit w unit =
+    if is_high_surrogate unit then Some (in_part w (High unit)) else
+    Some (put w unit)
 
 -- the first and the second digit of a second half, which is DC00 to DFFF
 abbrev pub with_low_one : WordState → ℕ → ℕ → Option WordState
 with_low_one w high digit = if digit == 13 then Some (in_part w (Low1 high)) else None
 
 abbrev pub with_low_two : WordState → ℕ → ℕ → Option WordState
-with_low_two w high digit = if nat_le 12 digit then Some (in_part w (Low2 high (208 + digit))) else None
+with_low_two w high digit =
+    if nat_le 12 digit then Some (in_part w (Low2 high (208 + digit))) else
+    None
 
 abbrev pub by_part : WordState → WordPart → ℕ → Option WordState
 by_part w Between b = between w b

@@ -5,3 +5,4 @@ pub mod KeyPlaces
 pub mod Opened
 pub mod Readings
 pub mod Scalars
+pub mod Within

@@ -24,9 +24,9 @@ made_of_parts (machine.InList values) = refl
 made_of_parts (machine.InObject members key) = refl
 
 abbrev pub frame_code : Coded machine.Frame
-frame_code = code_by (List Json
-    ⊎ (List Member
-    × List ℕ)) (coded⊎ (coded_list json.the_row.coded) (coded× (coded_list member.the_row.coded) (coded_list coded_ℕ))) parts_of of_parts made_of_parts
+frame_code = code_by (List Json ⊎ (List Member × List ℕ))
+    (coded⊎ (coded_list json.the_row.coded) (coded× (coded_list member.the_row.coded) (coded_list coded_ℕ)))
+    parts_of of_parts made_of_parts
 
 abbrev pub frame_of : Frame → machine.Frame
 frame_of (frames.List values) = machine.InList values

@@ -13,11 +13,17 @@ pub fn run(machine: &mut Machine, piece: &[u8]) -> Result<Option<(usize, JsonCau
     ensures { IfOk result (λ stop. MatchOption stop (steps step (state_of machine.old) piece.now ≡ Some (state_of machine.new))
         (λ at. IsStop (state_of machine.old) piece.now at.0 at.1)) }
 {
-    for (place, byte) in piece.iter().enumerate() {
-        let cause = machine.cause(*byte);
-        if !machine.step(*byte)? {
+    let mut place = 0;
+    loop {
+        place += machine.take_word(&piece[place..])?;
+        if place == piece.len() {
+            return Ok(None);
+        }
+        let byte = piece[place];
+        let cause = machine.cause(byte);
+        if !machine.step(byte)? {
             return Ok(Some((place, cause)));
         }
+        place += 1;
     }
-    Ok(None)
 }

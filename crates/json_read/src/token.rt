@@ -1,8 +1,9 @@
 // The bytes within a number, a word, and `null`, `true` and `false`.
-ghost use Rattle.std.specs.Prelude.{◌≡◌, IfOk, OnOk, IsTrue, Some, None, if◌then◌else◌};
+ghost use Rattle.std.specs.Prelude.{◌≡◌, ◌≤◌, length, take, IfOk, OnOk, IsTrue, Some, None, if◌then◌else◌};
+ghost use Rattle.first_fault.specs.Machine.{steps};
 ghost use Rattle.json_tree.specs.Number.{IsNumber};
 ghost use Rattle.json_tree.specs.declared.tree.Json.{Number};
-ghost use Rattle.json_machine.specs.Machine.{in_literal, in_number, in_word, sign_of, with_value};
+ghost use Rattle.json_machine.specs.Machine.{in_literal, in_number, in_word, sign_of, step, with_value};
 ghost use Rattle.json_machine.specs.WordScan.{next_character};
 ghost use Rattle.json_read.specs.Views.{literal_tree, state_of};
 ghost use Rattle.json_read.specs.declared.phase.Phase.TheVariants.{InNumber, InWord};
@@ -36,6 +37,24 @@ impl Machine {
     {
         let number = self.number.finish(self.alloc)?;
         self.put(Json::Number(number))
+    }
+
+    /// Takes the bytes that go on with the word in hand, and says how many.
+    pub fn take_word(&mut self, bytes: &[u8]) -> Result<usize, AllocError>
+        ensures within { IfOk result (λ n. n ≤ length bytes.now) }
+        ensures steps { IfOk result (λ n. steps step (state_of self.old) (take n bytes.now) ≡ Some (state_of self.new)) }
+    {
+        match self.phase {
+            Phase::InWord => {
+                let count = self.word.take_front(bytes)?;
+                Ok(count)
+            }
+            Phase::InKey => {
+                let count = self.word.take_front(bytes)?;
+                Ok(count)
+            }
+            _ => Ok(0),
+        }
     }
 
     pub fn word_byte(&mut self, byte: u8) -> Result<bool, AllocError>

@@ -1,4 +1,5 @@
-ghost use Rattle.std.specs.Prelude.{◌≡◌, ◌≢◌, ◌↔◌, ◌<◌, ◌≤◌, Some, None, false, IsTrue, IfOk, OnOk, if◌then◌else◌};
+ghost use Rattle.std.specs.Prelude.{◌≡◌, ◌≢◌, ◌↔◌, ◌<◌, ◌≤◌, Some, None, false, length, take, IsTrue, IfOk, OnOk, if◌then◌else◌};
+ghost use Rattle.first_fault.specs.Machine.{steps};
 ghost use Rattle.json_machine.specs.WordScan.{WordState, between, is_between, next_character, put, word_start};
 
 use crate::character::{Part, Step};
@@ -64,6 +65,19 @@ impl WordScanner {
             None => return Ok(false),
         }
         Ok(true)
+    }
+
+    /// Takes bytes up to the first that can't stand here, and says how many.
+    pub fn take_front(&mut self, bytes: &[u8]) -> Result<usize, AllocError>
+        ensures within { IfOk result (λ n. n ≤ length bytes.now) }
+        ensures steps { IfOk result (λ n. steps next_character self.old (take n bytes.now) ≡ Some self.new) }
+    {
+        for (place, byte) in bytes.iter().enumerate() {
+            if !self.take(*byte)? {
+                return Ok(place);
+            }
+        }
+        Ok(bytes.len())
     }
 
     /// Whether the word may end here: the last character is whole.
