@@ -1,45 +1,55 @@
--- From what is due to what was written.
-use Rattle.std.proofs.Common.{◌≡◌, ◌⊎◌, ℕ, List, [], Result, Ok, Err, None, Some, inl, inr, refl, sym, subst}
+-- from what is due to what was written
+use Rattle.std.proofs.Common.{◌≡◌, ◌≢◌, ◌⊎◌, ℕ, List, [], Result, Ok, Err, None, Some, append-nil, inl, inr, refl, sym, subst}
 use Rattle.std.specs.declared.option.Option.{Option}
-use Rattle.std.proofs.lemmas.List.{append-nil}
 use Rattle.fold_base.specs.Outside.{Gains, GainsPart}
-use Rattle.fold_program.specs.Status.{IsAnswer, IsFailure, IsRefusal}
-use Rattle.fold_program.specs.Steps.{Follows}
-use Rattle.fold_program.specs.Outcome.{IsOutcome, IsOutcomeWritten, IsOutcomeCutShort}
+use Rattle.fold_program.specs.Status.{IsFailure}
+use Rattle.fold_program.specs.Steps.{Ends, Follows, due_with}
+use Rattle.fold_program.specs.Words.{AreWordsOf, AreRefused}
+use Rattle.fold_program.specs.Outcome.{AreLeft, AreRead, AreUnread, Does, Makes, format_of, IsOutcome, KeepsToOutcome, HasOutcome}
+use Rattle.fold_program.specs.declared.input.Input.{Input}
 use Rattle.fold_program.specs.declared.status.Status.{Status}
-use Rattle.fold_program.specs.declared.status.Status.TheVariants.{Read, Write, Memory}
-use Rattle.fold_program.specs.declared.output.Output.{Output}
+use Rattle.fold_program.specs.declared.status.Status.TheVariants.{Done, Write, Memory}
+use Rattle.fold_program.specs.declared.words.Command.{Command}
+use Rattle.fold_program.specs.declared.words.Format.{Format}
+use Rattle.fold_program.proofs.Chain.{ends_following, ends_here, ends_on}
+
+some_left : (left : Option (List ℕ)) → (bytes : List ℕ) × AreLeft left bytes
+some_left None = ([], tt)
+some_left (Some bytes) = (bytes, refl)
+
+-- the words are refused, whatever the bytes are
+pub refused : (words : List (List ℕ)) (left : Option (List ℕ)) (status : Status) → (status ≡ Memory) ⊎ AreRefused words status
+    → (bytes : List ℕ) × AreLeft left bytes × (let r : Result (List ℕ) Status = Err status in Ends (IsOutcome words bytes) r)
+refused words left status (inl memory) = let bytes = some_left left in (bytes.0, bytes.1, inl (inr memory))
+refused words left status (inr h) = let bytes = some_left left in (bytes.0, bytes.1, ends_here (AreRefused words) (AreWordsOf words) (λ command. Does command bytes.0) status h)
+
+-- the words are a command's, the bytes were read, and this was made of what they spell
+pub made : (words : List (List ℕ)) (left : Option (List ℕ)) (command : Command) → AreWordsOf words command → (format : Format) → format ≡ format_of command
+    → (spelled : Input) → ((bytes : List ℕ) × AreLeft left bytes × AreRead format bytes spelled) → (r : Result (List ℕ) Status) → Follows (Makes command spelled) r
+    → (bytes : List ℕ) × AreLeft left bytes × Ends (IsOutcome words bytes) r
+made words left command h format same spelled read r follows = (
+  read.0,
+  read.1,
+  ends_on (AreRefused words) (AreWordsOf words) (λ command. Does command read.0) command h r
+      (ends_on (AreUnread (format_of command) read.0) (AreRead (format_of command) read.0) (Makes command) spelled (subst (λ f. AreRead f read.0 spelled) same read.2) r
+      (ends_following (Makes command spelled) r follows)),
+)
 
 gains_none : (told : Option (List ℕ)) → Gains told told []
 gains_none None = tt
 gains_none (Some bytes) = sym (append-nil bytes)
 
--- Nothing is written.
-pub ends_refused : (words : List (List ℕ)) (bytes : List ℕ) (told : Option (List ℕ)) (s : Status) → (let r : Result Output Status = Err s in (r ≡ Err Read) ⊎ Follows (IsOutcome words bytes) r) → IsFailure s ⊎ IsOutcomeWritten words bytes told told s
-ends_refused words bytes told s (inl e) = let same : s ≡ Read = cc in inl (subst IsFailure (sym same) tt)
-ends_refused words bytes told s (inr (inl e)) = inl (subst IsFailure (sym e) tt)
-ends_refused words bytes told s (inr (inr h)) = inr ([], h.1, gains_none told)
+keeps : (words : List (List ℕ)) (bytes : List ℕ) (told : Option (List ℕ)) (status : Status) → (let r : Result (List ℕ) Status = Err status in Ends (IsOutcome words bytes) r) → status ≢ Write → KeepsToOutcome words bytes told told status
+keeps words bytes told status (inl (inl read)) other = (inl (subst IsFailure (sym read) tt), λ e. absurd (other e))
+keeps words bytes told status (inl (inr memory)) other = (inl (subst IsFailure (sym memory) tt), λ e. absurd (other e))
+keeps words bytes told status (inr h) other = (inr (due_with status, h, gains_none told), λ e. absurd (other e))
 
-pub ends_answered : (words : List (List ℕ)) (bytes : List ℕ) (before after : Option (List ℕ)) (o : Output) → (let r : Result Output Status = Ok o in (r ≡ Err Read) ⊎ Follows (IsOutcome words bytes) r) → Gains before after o.text → IsOutcomeWritten words bytes before after o.status
-ends_answered words bytes before after o (inl e) g = absurd (cc)
-ends_answered words bytes before after o (inr h) g = (o.text, h.1, g)
+-- a step stopped, and nothing was written
+pub stopped : (words : List (List ℕ)) (left told : Option (List ℕ)) (status : Status) → ((bytes : List ℕ) × AreLeft left bytes × (let r : Result (List ℕ) Status = Err status in Ends (IsOutcome words bytes) r))
+    → status ≢ Write → HasOutcome words left told told status
+stopped words left told status ends other = (ends.0, ends.1, keeps words ends.0 told status ends.2 other)
 
-pub breaks_off : (words : List (List ℕ)) (bytes : List ℕ) (before after : Option (List ℕ)) (o : Output) → (let r : Result Output Status = Ok o in (r ≡ Err Read) ⊎ Follows (IsOutcome words bytes) r) → GainsPart before after o.text → IsOutcomeCutShort words bytes before after
-breaks_off words bytes before after o (inl e) g = absurd (cc)
-breaks_off words bytes before after o (inr h) g = (o.status, o.text, h.0, h.1, g)
-
--- Where a text was due, or nothing was to be written, writing didn't fail.
-pub answered_not_broken : (s : Status) → IsAnswer s → ¬ (s ≡ Write)
-answered_not_broken s a e = subst IsAnswer e a
-
-pub refused_not_broken : (s : Status) → IsRefusal s ⊎ ((s ≡ Read) ⊎ (s ≡ Memory)) → ¬ (s ≡ Write)
-refused_not_broken s (inl h) e = subst IsRefusal e h
-refused_not_broken s (inr (inl h)) e = cc
-refused_not_broken s (inr (inr h)) e = cc
-
-pub completes : (s : Status) (P : Type 0) → (s ≡ Read → ⊥) → (s ≡ Write → ⊥) → IsFailure s ⊎ P → (s ≡ Memory) ⊎ P
-completes s P r w (inr p) = inr p
-completes Read P r w (inl h) = absurd (r refl)
-completes Write P r w (inl h) = absurd (w refl)
-completes Memory P r w (inl h) = inl refl
-completes _ P r w (inl h) = absurd h
+-- a text was due, and a part of it was written
+pub broken : (words : List (List ℕ)) (left before after : Option (List ℕ)) (text : List ℕ) → ((bytes : List ℕ) × AreLeft left bytes × IsOutcome words bytes Done text)
+    → GainsPart before after text → HasOutcome words left before after Write
+broken words left before after text due part = (due.0, due.1, (inl tt, λ e. (Done, text, tt, due.2, part)))

@@ -1,5 +1,7 @@
+pub mod Chain
+pub mod Decide
 pub mod Ending
-pub mod Exists
-pub mod Following
-pub mod ShownWords
-pub mod Unique
+pub mod Meaning
+pub mod Outcomes
+pub mod Plain
+pub mod Reading

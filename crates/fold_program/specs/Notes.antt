@@ -1,7 +1,8 @@
--- What is said of a status.
-use Rattle.std.specs.Prelude.{◌≡◌, ℕ, List, [], ◌∷◌, ◌++◌, codes}
+-- what is said of a status
+use Rattle.std.specs.Prelude.{◌≡◌, ◌⊎◌, ℕ, List, [], ◌∷◌, ◌++◌, codes}
 use Rattle.std.specs.declared.option.Option.{Option}
-use Rattle.fold_base.specs.Outside.{Gains}
+use Rattle.fold_base.specs.Outside.{Gains, Rose}
+use Rattle.fold_program.specs.Status.{IsAnswer}
 use Rattle.cp_lines.specs.FaultText as cp
 use Rattle.json_read.specs.FaultText as json
 use Rattle.fold_program.specs.declared.status.Status.{Status}
@@ -13,21 +14,21 @@ use Rattle.fold_program.specs.declared.status.WordsCause.TheVariants.{Refused, V
 use Rattle.fold_program.specs.declared.status.Limit.{Limit as AnyLimit}
 use Rattle.fold_program.specs.declared.status.Limit.TheVariants.{TooLong}
 
--- What is said of a text that isn't of its format.
+-- what is said of a text that isn't of its format
 abbrev pub text_message : TextFault → List ℕ
 text_message (Json fault) = json.fault_text fault
 text_message (Cp fault) = cp.fault_text fault
 
--- What is said of words that are refused.
+-- what is said of words that are refused
 abbrev pub words_message : WordsCause → List ℕ
 words_message Refused = codes "words refused"
 words_message Value = codes "words value"
 
--- What is said of input that is past a limit.
+-- what is said of input that is past a limit
 abbrev pub limit_message : AnyLimit → List ℕ
 limit_message TooLong = codes "too long"
 
--- What is said of a status. Of `Done` nothing is put.
+-- what is said of a status; of `Done` nothing is put
 abbrev pub message : Status → List ℕ
 message Done = codes "done"
 message (Text fault) = text_message fault
@@ -37,10 +38,16 @@ message Write = codes "write failed"
 message (Limit limit) = limit_message limit
 message Memory = codes "memory"
 
--- The line on a status.
+-- the line on a status
 abbrev pub note_line : Status → List ℕ
 note_line status = codes "fold_program: " ++ message status ++ 10 ∷ []
 
--- These bytes were gained, or a front of them.
+-- these bytes were gained, or a front of them
 abbrev pub GainsFront : Option (List ℕ) → Option (List ℕ) → List ℕ → Type 0
 GainsFront before after bytes = (front : List ℕ) × (rest : List ℕ) × (bytes ≡ front ++ rest) × Gains before after front
+
+-- notes get at most the line on the status, and nothing on an answer; where they don't fail, they get it whole or nothing of it
+pub record IsNoted {E : Type 0} (written : E → Option (List ℕ)) (faults : E → ℕ) (old new : E) (status : Status) : Type 0 where
+  pub quiet : IsAnswer status → new ≡ old
+  pub line : GainsFront (written old) (written new) (note_line status)
+  pub whole : ¬ (Rose (faults old) (faults new)) → (new ≡ old) ⊎ Gains (written old) (written new) (note_line status)

@@ -1,5 +1,6 @@
--- The outcome of words and bytes, and what it has to do with the outside.
-use Rattle.std.specs.Prelude.{◌≡◌, ◌⊎◌, ℕ, ◌<◌, ◌≤◌, List, [], ◌∷◌, ◌++◌, length, Some, None}
+-- the outcome of words and bytes, and what it has to do with the outside
+use Rattle.std.specs.Prelude.{◌≡◌, ◌⊎◌, ℕ, ◌<◌, ◌≤◌, List, [], ◌∷◌, ◌++◌, length, Some, None, Result, Ok, Err}
+use Rattle.std.specs.List.{All}
 use Rattle.std.specs.declared.option.Option.{Option}
 use Rattle.fold_base.specs.Outside.{Gains, GainsPart}
 use Rattle.fold_base.specs.declared.outside.TheConstants.{MOST_BYTES}
@@ -9,13 +10,16 @@ use Rattle.cp_lines.specs.Reads as cp
 use Rattle.cp_lines.specs.declared.fault.CpFault.{CpFault}
 use Rattle.json_tree.specs.Printed as json_form
 use Rattle.json_tree.specs.Spells.{Spells}
+use Rattle.json_tree.specs.Tree.{IsProper}
 use Rattle.json_read.specs.Causes as json
 use Rattle.json_read.specs.declared.fault.JsonFault.{JsonFault}
 use Rattle.fold_program.specs.Status.{IsAnswer, IsFailure}
 use Rattle.fold_program.specs.Steps.{Outcome, Then, Answers}
-use Rattle.fold_program.specs.Words.{AreWordsOf, HaveNoCommand, AreRefused}
+use Rattle.fold_program.specs.Words.{AreWordsOf, AreRefused, TakeNothing}
+use Rattle.fold_program.specs.declared.input.Input.{Input}
+use Rattle.fold_program.specs.declared.input.Input.TheVariants as input
 use Rattle.fold_program.specs.declared.status.Status.{Status}
-use Rattle.fold_program.specs.declared.status.Status.TheVariants.{Done, Text, Write, Limit}
+use Rattle.fold_program.specs.declared.status.Status.TheVariants.{Text, Read, Write, Limit, Memory}
 use Rattle.fold_program.specs.declared.status.TextFault.TheVariants as faults
 use Rattle.fold_program.specs.declared.status.Limit.TheVariants.{TooLong}
 use Rattle.fold_program.specs.declared.words.Command.{Command}
@@ -23,66 +27,99 @@ use Rattle.fold_program.specs.declared.words.Command.TheVariants.{Show}
 use Rattle.fold_program.specs.declared.words.Format.{Format}
 use Rattle.fold_program.specs.declared.words.Format.TheVariants.{Fold, Cp}
 
--- There are more bytes than a text may have.
+-- ---- reading
+
+-- there are more bytes than a text may have
 abbrev pub AreTooMany : List ℕ → Status → Type 0
 AreTooMany bytes status = (MOST_BYTES < length bytes) × (status ≡ Limit TooLong)
 
--- There are no more bytes than a text may have, and these are they.
-abbrev pub AreWithin : List ℕ → List ℕ → Type 0
-AreWithin bytes given = (length bytes ≤ MOST_BYTES) × (given ≡ bytes)
+-- the bytes are no text of the format, and the status names their first fault
+abbrev pub HaveFault : Format → List ℕ → Status → Type 0
+HaveFault Fold bytes status = (fault : JsonFault) × json.NamesFirstFault bytes fault × (status ≡ Text (faults.Json fault))
+HaveFault Cp bytes status = (fault : CpFault) × cp.NamesFirstFault bytes fault × (status ≡ Text (faults.Cp fault))
 
--- The bytes are no CP text, and the status names their first fault.
-abbrev pub HasCpFault : List ℕ → Status → Type 0
-HasCpFault bytes status = (fault : CpFault) × cp.NamesFirstFault bytes fault × (status ≡ Text (faults.Cp fault))
+-- the bytes are a text of the format, and this is what it spells
+abbrev pub Spell : Format → List ℕ → Input → Type 0
+Spell Fold bytes (input.Fold tree) = Spells bytes tree
+Spell Fold bytes (input.Cp lines) = ⊥
+Spell Cp bytes (input.Fold tree) = ⊥
+Spell Cp bytes (input.Cp lines) = CpText bytes lines
 
--- The bytes are no JSON text, and the status names their first fault.
-abbrev pub HasJsonFault : List ℕ → Status → Type 0
-HasJsonFault bytes status = (fault : JsonFault) × json.NamesFirstFault bytes fault × (status ≡ Text (faults.Json fault))
+-- the bytes aren't read: there are too many, or else they have a fault
+abbrev pub AreUnread : Format → List ℕ → Status → Type 0
+AreUnread format bytes status = AreTooMany bytes status ⊎ ((length bytes ≤ MOST_BYTES) × HaveFault format bytes status)
 
--- The text of a file, refused at its first fault, or else printed. A printed tree is a line.
-abbrev pub Shows : Format → List ℕ → Outcome
-Shows Fold bytes = Then (HasJsonFault bytes) (Spells bytes) (λ tree. Answers Done (json_form.printed tree ++ 10 ∷ []))
-Shows Cp bytes = Then (HasCpFault bytes) (CpText bytes) (λ lines. Answers Done (cp_form.printed lines))
+-- the bytes are read: there are no more than a text may have, and this is what they spell
+abbrev pub AreRead : Format → List ℕ → Input → Type 0
+AreRead format bytes spelled = (length bytes ≤ MOST_BYTES) × Spell format bytes spelled
 
--- What a command makes of the bytes that it may take.
+-- what is so of all that is read: a tree is proper, and a line's kind is one of its format
+abbrev pub IsSound : Input → Type 0
+IsSound (input.Fold tree) = IsProper tree
+IsSound (input.Cp lines) = All (λ line. line.kind ≤ 4) lines
+
+-- what reading answers: what the bytes spell, a status where they aren't read, or that reading or the memory failed
+abbrev pub IsReading : Format → List ℕ → Result Input Status → Type 0
+IsReading format bytes (Ok spelled) = AreRead format bytes spelled
+IsReading format bytes (Err status) = ((status ≡ Read) ⊎ (status ≡ Memory)) ⊎ AreUnread format bytes status
+
+-- ---- the commands
+
+-- what was read, in its printed form; that of a tree becomes a line
+abbrev pub Shows : Input → Outcome
+Shows (input.Fold tree) = Answers (json_form.printed tree ++ 10 ∷ [])
+Shows (input.Cp lines) = Answers (cp_form.printed lines)
+
+-- the format that a command reads
+abbrev pub format_of : Command → Format
+format_of (Show options) = options.from
+
+-- what a command makes of what it read
+abbrev pub Makes : Command → Input → Outcome
+Makes (Show options) = Shows
+
+-- what a command makes of the bytes: they aren't read, or it makes something of what they spell
 abbrev pub Does : Command → List ℕ → Outcome
-Does (Show format) = Shows format
+Does command bytes = Then (AreUnread (format_of command) bytes) (AreRead (format_of command) bytes) (Makes command)
 
--- The outcome of words and bytes: words of no command are refused, then too many bytes, and then the command decides.
+-- the outcome of words and bytes: the words are refused, or they are a command's, which does something
 abbrev pub IsOutcome : List (List ℕ) → List ℕ → Outcome
-IsOutcome words bytes =
-    Then (AreRefused words) (AreWordsOf words) (λ command.
-    Then (AreTooMany bytes) (AreWithin bytes) (λ given.
-    Does command given))
+IsOutcome words bytes = Then (AreRefused words) (AreWordsOf words) (λ command. Does command bytes)
 
--- The bytes that the outcome is of: all that are left, or any where the words have no command.
+-- ---- the outside
+
+-- the bytes that the outcome is of: all that are left, or any where the words take nothing
 abbrev pub AreInput : List (List ℕ) → Option (List ℕ) → List ℕ → Type 0
-AreInput words left bytes = (left ≡ Some bytes) ⊎ HaveNoCommand words
+AreInput words left bytes = (left ≡ Some bytes) ⊎ TakeNothing words
 
--- These bytes are all that are left, where that is told.
+-- these bytes are all that are left, where that is told
 abbrev pub AreLeft : Option (List ℕ) → List ℕ → Type 0
 AreLeft None bytes = Unit {0}
 AreLeft (Some left) bytes = bytes ≡ left
 
--- The status is the outcome, and, where the sink tells its bytes, its text was written and nothing else.
+-- the status is the outcome, and, where the sink tells its bytes, its text was written and nothing else
 abbrev pub IsOutcomeWritten : List (List ℕ) → List ℕ → Option (List ℕ) → Option (List ℕ) → Status → Type 0
 IsOutcomeWritten words bytes before after status = (text : List ℕ) × IsOutcome words bytes status text × Gains before after text
 
--- A text was due, and, where the sink tells its bytes, a proper prefix of it was written.
+-- a text was due, and, where the sink tells its bytes, a proper prefix of it was written
 abbrev pub IsOutcomeCutShort : List (List ℕ) → List ℕ → Option (List ℕ) → Option (List ℕ) → Type 0
 IsOutcomeCutShort words bytes before after =
     (due : Status) × (text : List ℕ) × IsAnswer due × IsOutcome words bytes due text × GainsPart before after text
 
--- Unless the outside or the memory failed, the status is the outcome and its text was written; where writing failed, a proper
--- prefix of it was.
+-- unless the outside or the memory failed, the status is the outcome and its text was written; where writing failed, a proper
+-- prefix of it was
 abbrev pub KeepsToOutcome : List (List ℕ) → List ℕ → Option (List ℕ) → Option (List ℕ) → Status → Type 0
 KeepsToOutcome words bytes before after status =
     (IsFailure status ⊎ IsOutcomeWritten words bytes before after status) × (status ≡ Write → IsOutcomeCutShort words bytes before after)
 
--- Words and bytes have an outcome.
+-- the same of all the bytes that were left, or of some where that isn't told
+abbrev pub HasOutcome : List (List ℕ) → Option (List ℕ) → Option (List ℕ) → Option (List ℕ) → Status → Type 0
+HasOutcome words left before after status = (bytes : List ℕ) × AreLeft left bytes × KeepsToOutcome words bytes before after status
+
+-- words and bytes have an outcome
 abbrev pub HaveOutcome : List (List ℕ) → List ℕ → Type 0
 HaveOutcome words bytes = (status : Status) × (text : List ℕ) × IsOutcome words bytes status text
 
--- Words and bytes have one outcome at most: one status, and one text.
+-- words and bytes have one outcome at most: one status, and one text
 abbrev pub HaveAtMostOneOutcome : List (List ℕ) → List ℕ → Type 0
 HaveAtMostOneOutcome words bytes = (s s' : Status) (t t' : List ℕ) → IsOutcome words bytes s t → IsOutcome words bytes s' t' → (s ≡ s') × (t ≡ t')

@@ -1,5 +1,8 @@
--- What the program ends with.
-use Rattle.std.specs.Prelude.{ℕ}
+-- what the program ends with
+use Rattle.std.specs.Prelude.{◌≡◌, ◌≢◌, ◌⊎◌, ℕ, Result, Ok, Err}
+use Rattle.clap.specs.Values.{kind_of}
+use Rattle.clap.specs.declared.error.Error.{Error}
+use Rattle.clap.specs.declared.error.kind.ErrorKind.TheVariants.{OutOfMemory}
 use Rattle.fold_base.specs.declared.pieces.ReadFault.{ReadFault}
 use Rattle.fold_base.specs.declared.pieces.ReadFault.TheVariants as read
 use Rattle.cp_lines.specs.declared.fault.CpReadFault.{CpReadFault}
@@ -9,9 +12,10 @@ use Rattle.json_read.specs.declared.fault.JsonReadFault.TheVariants as json
 use Rattle.fold_program.specs.declared.status.Status.{Status}
 use Rattle.fold_program.specs.declared.status.Status.TheVariants.{Done, Text, Words, Read, Write, Limit, Memory}
 use Rattle.fold_program.specs.declared.status.TextFault.TheVariants.{Json, Cp}
+use Rattle.fold_program.specs.declared.status.WordsCause.TheVariants.{Refused}
 use Rattle.fold_program.specs.declared.status.Limit.TheVariants.{TooLong}
 
--- The exit status of the process.
+-- the exit status of the process
 abbrev pub code_of : Status → ℕ
 code_of Done = 0
 code_of (Text fault) = 2
@@ -21,37 +25,39 @@ code_of Write = 8
 code_of (Limit limit) = 9
 code_of Memory = 10
 
--- A text is due.
+-- a text goes to the sink
 abbrev pub IsAnswer : Status → Type 0
 IsAnswer Done = Unit {0}
 IsAnswer _ = ⊥
 
--- The words or the bytes are refused.
-abbrev pub IsRefusal : Status → Type 0
-IsRefusal (Text fault) = Unit {0}
-IsRefusal (Words cause) = Unit {0}
-IsRefusal (Limit limit) = Unit {0}
-IsRefusal _ = ⊥
-
--- The outside or the memory failed, which no words and bytes decide.
+-- the outside or the memory failed, which no words and bytes decide
 abbrev pub IsFailure : Status → Type 0
 IsFailure Read = Unit {0}
 IsFailure Write = Unit {0}
 IsFailure Memory = Unit {0}
 IsFailure _ = ⊥
 
--- The status where the input can't be had whole.
+-- the status of what went well so far, or else of the error
+abbrev pub status_of : {X : Type 0} → Result X Status → Status
+status_of (Ok value) = Done
+status_of (Err status) = status
+
+-- the status where the input can't be had whole
 abbrev pub of_read : ReadFault → Status
 of_read read.Failed = Read
 of_read read.TooLong = Limit TooLong
 of_read (read.Memory error) = Memory
 
--- The status where the input isn't read as JSON text.
+-- the status where the input isn't read as JSON text
 abbrev pub of_json : JsonReadFault → Status
 of_json (json.Text fault) = Text (Json fault)
 of_json (json.Memory error) = Memory
 
--- The status where the input isn't read as CP text.
+-- the status where the input isn't read as CP text
 abbrev pub of_cp : CpReadFault → Status
 of_cp (cp.Text fault) = Text (Cp fault)
 of_cp (cp.Memory error) = Memory
+
+-- the status where `clap` doesn't take the words: want of memory is no fault of theirs
+abbrev pub IsOfWords : Error → Status → Type 0
+IsOfWords error status = ((kind_of error ≡ OutOfMemory) × (status ≡ Memory)) ⊎ ((kind_of error ≢ OutOfMemory) × (status ≡ Words Refused))

@@ -1,23 +1,46 @@
--- An outcome is said in steps: each refuses, or gives a value to what follows.
+-- an outcome is said in steps: each stops with a status, or gives a value to what follows
 use Rattle.std.specs.Prelude.{◌≡◌, ◌⊎◌, ℕ, List, [], Result, Ok, Err}
-use Rattle.fold_program.specs.Status.{IsAnswer, IsRefusal}
 use Rattle.fold_program.specs.declared.status.Status.{Status}
-use Rattle.fold_program.specs.declared.status.Status.TheVariants.{Memory}
-use Rattle.fold_program.specs.declared.output.Output.{Output}
+use Rattle.fold_program.specs.declared.status.Status.TheVariants.{Done, Words, Read, Write, Limit, Memory}
+use Rattle.fold_program.specs.declared.status.Limit.TheVariants.{TooLong}
 
--- A status, and the text that is due with it.
+-- a status, and the text that is due with it
 abbrev pub Outcome : Type 1
 Outcome = Status → List ℕ → Type 0
 
--- A step refuses, and no text is due. Or it gives a value, and what follows has this outcome.
+-- the text that is due where a step stops with this status: a refusal has none
+abbrev pub due_with : Status → List ℕ
+due_with status = []
+
+-- a step stops, and the text that its status has is due; or it gives a value, and what follows has this outcome
 abbrev pub Then : {X : Type 0} → (Status → Type 0) → (X → Type 0) → (X → Outcome) → Outcome
-Then {X} refuses gives next status text = (refuses status × (text ≡ [])) ⊎ ((x : X) × gives x × next x status text)
+Then {X} stops gives next status text = (stops status × (text ≡ due_with status)) ⊎ ((x : X) × gives x × next x status text)
 
--- The last step: this status, with this text.
-abbrev pub Answers : Status → List ℕ → Outcome
-Answers answer due status text = (status ≡ answer) × (text ≡ due)
+-- the last step: it is done, with this text
+abbrev pub Answers : List ℕ → Outcome
+Answers due status text = (status ≡ Done) × (text ≡ due)
 
--- What a part of the program makes is the outcome, or want of memory.
-abbrev pub Follows : Outcome → Result Output Status → Type 0
-Follows outcome (Ok output) = IsAnswer output.status × outcome output.status output.text
-Follows outcome (Err status) = (status ≡ Memory) ⊎ (IsRefusal status × outcome status [])
+-- a status with which a command may stop once it has read: what was read decides it, and nothing else
+abbrev pub IsStop : Status → Type 0
+IsStop Done = ⊥
+IsStop (Words cause) = ⊥
+IsStop Read = ⊥
+IsStop Write = ⊥
+IsStop (Limit TooLong) = ⊥
+IsStop Memory = ⊥
+IsStop _ = Unit {0}
+
+-- what one step of a command answers: a value that it gives, a status with which it stops, or want of memory
+abbrev pub Steps : {X : Type 0} → (Status → Type 0) → (X → Type 0) → Result X Status → Type 0
+Steps stops gives (Ok value) = gives value
+Steps stops gives (Err status) = (status ≡ Memory) ⊎ (IsStop status × stops status)
+
+-- what its steps answer together: the text of the outcome, the status with which one of them stops, or want of memory
+abbrev pub Follows : Outcome → Result (List ℕ) Status → Type 0
+Follows outcome (Ok text) = outcome Done text
+Follows outcome (Err status) = (status ≡ Memory) ⊎ (IsStop status × outcome status (due_with status))
+
+-- the same of a whole run, whose words and whose bytes may be refused too, and whose input may not be read to its end
+abbrev pub Ends : Outcome → Result (List ℕ) Status → Type 0
+Ends outcome (Ok text) = outcome Done text
+Ends outcome (Err status) = ((status ≡ Read) ⊎ (status ≡ Memory)) ⊎ outcome status (due_with status)

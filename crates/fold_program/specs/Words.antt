@@ -1,6 +1,12 @@
--- The words of the command line.
-use Rattle.std.specs.Prelude.{◌≡◌, ℕ, List, [], ◌∷◌, ◌++◌, ◌⊎◌, map, codes, String, string_bytes}
+-- the words of the command line
+use Rattle.std.specs.Prelude.{◌≡◌, ◌≢◌, ◌⊎◌, ◌++◌, ◌∷◌, ℕ, List, [], map, codes, Option, Some, None, String, string_bytes, IsTrue, true, fold, if◌then◌else◌}
+use Rattle.std.specs.List.{find, list_any}
+use Rattle.std.specs.Str.{bytes_eq}
 use Rattle.std.specs.declared.alloc.Global.{Global}
+use Rattle.clap.specs.Words.{App, Kinds, Row, Rule, Shape, fault_of, first_of, new_rule, new_app, subcommand_of, with_subcommand}
+use Rattle.clap.specs.Simple.{new_shape}
+use Rattle.clap.specs.declared.builder.action.ArgAction.TheVariants.{Set}
+use Rattle.fold_program.specs.declared.words.Entry.{Entry}
 use Rattle.fold_program.specs.declared.words.Command.{Command}
 use Rattle.fold_program.specs.declared.words.Command.TheVariants.{Show}
 use Rattle.fold_program.specs.declared.words.Format.{Format}
@@ -9,31 +15,119 @@ use Rattle.fold_program.specs.declared.status.Status.{Status}
 use Rattle.fold_program.specs.declared.status.Status.TheVariants.{Words}
 use Rattle.fold_program.specs.declared.status.WordsCause.TheVariants.{Refused, Value}
 
--- The words as texts.
-abbrev pub texts : List (String Global) → List (List ℕ)
+abbrev pub Text : Type 0
+Text = List ℕ
+
+-- the words as texts
+abbrev pub texts : List (String Global) → List Text
 texts words = map string_bytes words
 
--- The value of `--from` that names a format.
-abbrev pub name_of : Format → List ℕ
+-- ---- the table
+
+-- a command and the options that it takes, by name
+pub record Listed : Type 0 where
+  pub name : Text
+  pub options : List Text
+
+abbrev pub table : List Listed
+table = record { name = codes "show"; options = codes "from" ∷ [] } ∷ []
+
+-- the text that names a format
+abbrev pub name_of : Format → Text
 name_of Fold = codes "fold"
 name_of Cp = codes "cp"
 
--- `show`, and `--from=` with this value.
-abbrev pub AreShowFrom : List ℕ → List (List ℕ) → Type 0
-AreShowFrom value words = words ≡ codes "show" ∷ (codes "--from=" ++ value) ∷ []
+abbrev pub NamesFormat : Text → Format → Type 0
+NamesFormat text format = text ≡ name_of format
 
--- They are words of this command. What isn't said is `--from=fold`.
-abbrev pub AreWordsOf : List (List ℕ) → Command → Type 0
-AreWordsOf words (Show format) = AreShowFrom (name_of format) words ⊎ ((words ≡ codes "show" ∷ []) × (format ≡ Fold))
+-- what is said of an option: its value is the one that the text names, and its default where nothing is said
+abbrev pub Says : {X : Type 0} → (Text → X → Type 0) → X → Option Text → X → Type 0
+Says names default None value = value ≡ default
+Says names default (Some text) value = names text value
 
--- They are the words of no command.
-abbrev pub HaveNoCommand : List (List ℕ) → Type 0
-HaveNoCommand words = (command : Command) → ¬ (AreWordsOf words command)
+-- a command's name, and what is said of each option, mean this command
+abbrev pub Mean : Text → (Text → Option Text) → Command → Type 0
+Mean name said (Show options) = (name ≡ codes "show") × Says NamesFormat Fold (said (codes "from")) options.from
 
--- They are words of a command but for a value that its option doesn't take.
-abbrev pub HaveOtherValue : List (List ℕ) → Type 0
-HaveOtherValue words = (value : List ℕ) × AreShowFrom value words × ((format : Format) → ¬ (value ≡ name_of format))
+-- ---- the words as `clap` takes them
 
--- The words are refused: they are those of no command. It is told apart whether a value alone is wrong.
-abbrev pub AreRefused : List (List ℕ) → Status → Type 0
-AreRefused words status = HaveNoCommand words × ((HaveOtherValue words × (status ≡ Words Value)) ⊎ ((¬ HaveOtherValue words) × (status ≡ Words Refused)))
+-- an entry of the program's own table
+abbrev pub as_listed : Entry → Listed
+as_listed entry = record { name = entry.name.now; options = map (λ option. option.now) entry.options.now }
+
+-- each option takes a value, need not stand there and has no default
+abbrev pub option_rule : Text → Rule
+option_rule name = record (new_rule name) { long = Some name; action = Some Set }
+
+abbrev pub subcommand_shape : Listed → Shape
+subcommand_shape entry = record (new_shape entry.name) { rules = map option_rule entry.options }
+
+-- the command with a subcommand for each entry, whose words begin after the program's name
+abbrev pub with_entry : App → Listed → App
+with_entry above entry = with_subcommand above (subcommand_shape entry)
+
+abbrev pub no_entries : App
+no_entries = record (new_app (codes "fold_program")) { top = record (new_shape (codes "fold_program")) { no_binary_name = true } }
+
+abbrev pub app : App
+app = fold with_entry no_entries table
+
+-- why `clap` refuses the words: nothing where it takes them
+unfoldable pub faults : List Text → Kinds
+faults words = fault_of app words
+
+-- the command that `clap` finds in the words, with a row for each option that stands there
+unfoldable pub found : List Text → Option (Text × List Row)
+found words = subcommand_of app words
+
+-- the value that the rows give to an option
+abbrev pub said_in : List Row → Text → Option Text
+said_in rows option = first_of option rows
+
+-- `clap` takes the words, with this command
+abbrev pub AreTaken : List Text → Text → List Row → Type 0
+AreTaken words name rows = (faults words ≡ []) × (found words ≡ Some (name, rows))
+
+-- ---- what the words mean
+
+abbrev pub AreWordsOf : List Text → Command → Type 0
+AreWordsOf words command = (name : Text) × (rows : List Row) × AreTaken words name rows × Mean name (said_in rows) command
+
+-- the words are refused: by `clap`, or because it finds no command, or because an option has a value that it doesn't take
+abbrev pub AreRefused : List Text → Status → Type 0
+AreRefused words status =
+    (((faults words ≢ []) ⊎ (found words ≡ None)) × (status ≡ Words Refused))
+    ⊎ ((name : Text) × (rows : List Row) × AreTaken words name rows × ((command : Command) → ¬ Mean name (said_in rows) command) × (status ≡ Words Value))
+
+-- the command reads the input
+abbrev pub Reads : Command → Type 0
+Reads (Show options) = Unit {0}
+
+-- nothing is taken from the source: the words are refused, or their command reads no input
+abbrev pub TakeNothing : List Text → Type 0
+TakeNothing words = (command : Command) → AreWordsOf words command → ¬ Reads command
+
+-- ---- the plain form
+
+-- an option with its value, as one word
+abbrev pub plain_word : Text × Text → Text
+plain_word p = codes "--" ++ p.0 ++ codes "=" ++ p.1
+
+-- what the pairs say of an option
+abbrev pub said_by : List (Text × Text) → Text → Option Text
+said_by [] option = None
+said_by (p ∷ ps) option = if bytes_eq p.0 option then Some p.1 else said_by ps option
+
+-- the pairs name these options, and none twice
+abbrev pub NameOnce : List Text → List (Text × Text) → Type 0
+NameOnce options [] = Unit {0}
+NameOnce options (p ∷ ps) = IsTrue (list_any (λ option. bytes_eq option p.0) options) × (said_by ps p.0 ≡ None) × NameOnce options ps
+
+-- the first entry of the table with this name
+abbrev pub entry_of : Text → Option Listed
+entry_of name = find (λ entry. bytes_eq entry.name name) table
+
+-- a command of the table, and then options that it takes, each at most once and in any order, with values that they take
+abbrev pub ArePlainWordsOf : List Text → Command → Type 0
+ArePlainWordsOf words command = (entry : Listed) × (pairs : List (Text × Text)) × (entry_of entry.name ≡ Some entry)
+    × (words ≡ entry.name ∷ map plain_word pairs) × NameOnce entry.options pairs × Mean entry.name (said_by pairs) command

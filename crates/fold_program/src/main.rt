@@ -4,25 +4,27 @@
 //! `fold_program show --from=cp` does so with CP text.
 #![tactic(auto)]
 
+mod act;
+mod arguments;
+mod input;
 mod notes;
-mod output;
 mod run;
-mod show;
 mod status;
 mod words;
 
+use arguments::words_after_name;
 use fold_base::{ReadSource, WriteSink};
 use run::run;
+use std::io;
 use std::process::ExitCode;
-use std::{env, io};
 
 #[cfg(test)]
 mod tests;
 
 fn main(rt: HostRuntime) -> ExitCode {
     let alloc = rt.alloc();
-    let words: Vec<String> = match env::args(&rt) {
-        Ok(args) => match args.skip(1).collect(alloc) {
+    let words: Vec<String> = match words_after_name(&rt, alloc) {
+        Ok(words) => match words.collect(alloc) {
             Ok(words) => words,
             Err(_) => return ExitCode::from(10),
         },

@@ -1,8 +1,6 @@
 // What is said of a refusal or a failure.
-ghost use Rattle.std.specs.Prelude.{◌≡◌, ◌⊎◌};
 ghost use Rattle.fold_base.specs.Outside.{Rose, Gains};
-ghost use Rattle.fold_program.specs.Status.{IsAnswer};
-ghost use Rattle.fold_program.specs.Notes.{GainsFront, note_line};
+ghost use Rattle.fold_program.specs.Notes.{GainsFront, IsNoted};
 
 use crate::status::Status;
 use fold_base::{Sink, write_all_bytes};
@@ -11,12 +9,7 @@ use std::alloc::Global;
 /// Puts one line on a status that is no answer. The sink's faults are ignored, and a line that
 /// memory is wanting for is left out.
 pub fn note<E: Sink>(alloc: Global, status: &Status, notes: &mut E)
-    ensures quiet { IsAnswer status.now → notes.new ≡ notes.old }
-    ensures line { GainsFront (E.written notes.old) (E.written notes.new) (note_line status.now) }
-
-    // Where the notes don't fail, the line is put whole, or none of it.
-    ensures whole { ¬ (Rose (E.faults notes.old) (E.faults notes.new)) → (notes.new ≡ notes.old)
-        ⊎ Gains (E.written notes.old) (E.written notes.new) (note_line status.now) }
+    ensures { IsNoted E.written E.faults notes.old notes.new status.now }
 {
     match status {
         Status::Done => {}

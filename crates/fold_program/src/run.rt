@@ -1,28 +1,24 @@
 // The top call.
-ghost use Rattle.std.specs.Prelude.{◌≡◌, ◌≢◌, ◌⊎◌, ◌≤◌, ◌<◌, [], List, ℕ, Ok, Err, length, IfOk, IfErr, IfSome, OnOk};
-ghost use Rattle.fold_base.specs.Outside.{Rose, Gives, Gains, IsSpent};
-ghost use Rattle.fold_program.specs.Status.{IsAnswer, IsFailure, IsRefusal, of_read};
-ghost use Rattle.fold_program.specs.Steps.{Follows};
-ghost use Rattle.fold_program.specs.Words.{texts, HaveNoCommand};
-ghost use Rattle.fold_program.specs.Notes.{GainsFront, note_line};
-ghost use Rattle.fold_program.specs.Outcome.{IsOutcome, AreInput, AreLeft, IsOutcomeWritten, IsOutcomeCutShort, KeepsToOutcome, HaveOutcome, HaveAtMostOneOutcome};
+ghost use Rattle.std.specs.Prelude.{◌≡◌, ◌≢◌, ◌⊎◌, List, ℕ, Err, Option, IfErr, length};
+ghost use Rattle.fold_base.specs.Outside.{Rose, Gives, IsSpent};
+ghost use Rattle.fold_program.specs.Status.{IsAnswer, IsFailure, status_of};
+ghost use Rattle.fold_program.specs.Steps.{Ends};
+ghost use Rattle.fold_program.specs.Words.{texts, TakeNothing, AreWordsOf, AreRefused, ArePlainWordsOf};
+ghost use Rattle.fold_program.specs.Notes.{IsNoted};
+ghost use Rattle.fold_program.specs.Outcome.{IsOutcome, AreInput, AreLeft, IsOutcomeWritten, KeepsToOutcome, HasOutcome, HaveOutcome, HaveAtMostOneOutcome};
 ghost use Rattle.fold_program.specs.Taken.{Takes, TakesAll};
 
+use crate::act::act;
+use crate::input::read_input;
 use crate::notes::note;
-use crate::output::Output;
-use crate::show::{show_cp, show_fold};
 use crate::status::Status;
-use crate::words::{Command, Format, read_words};
-use fold_base::{
-    CalmSink, CalmSource, List, MOST_BYTES, PieceTaker, ReadFault, Sink, Source, read_pieces,
-    write_all_bytes,
-};
-use json_read::JsonReader;
+use crate::words::{Command, read_words};
+use fold_base::{CalmSink, CalmSource, List, Sink, Source, Text, write_all_bytes};
 use std::alloc::Global;
 
 /// Does what the words say with the bytes of the source.
 ///
-/// The output is built whole before the first byte of it is put. At most one line goes to `notes`,
+/// The text is built whole before the first byte of it is put. At most one line goes to `notes`,
 /// where the status is another than `Done`.
 pub fn run<S: Source, T: Sink, E: Sink>(
     alloc: Global,
@@ -32,50 +28,33 @@ pub fn run<S: Source, T: Sink, E: Sink>(
     notes: &mut E,
 ) -> Status
     // Unless reading, writing or memory failed, the status is the outcome of the words and all the
-    // bytes, also where a count rose, and its text was written and nothing else.
-    ensures outcome { (bytes : List ℕ) → AreInput (texts words.now) (S.left source.old) bytes →
-        IsFailure result
-        ⊎ IsOutcomeWritten (texts words.now) bytes (T.written sink.old) (T.written sink.new) result }
+    // bytes that were left, and its text was written and nothing else. Where writing failed, a
+    // proper prefix of it was. Where the source doesn't tell its bytes, this is so of some.
+    ensures outcome { HasOutcome (texts words.now) (S.left source.old) (T.written sink.old) (T.written sink.new) result }
 
-    // Also where the source doesn't tell its bytes, `outcome` and `broken` are so of some bytes.
-    ensures some { (bytes : List ℕ) × AreLeft (S.left source.old) bytes
-        × KeepsToOutcome (texts words.now) bytes (T.written sink.old) (T.written sink.new) result }
-
-    // Where writing fails, a text was due, and a proper prefix of it was written.
-    ensures broken { result ≡ Status.Write →
+    // Where nothing failed outside, the status is the outcome, or memory is wanting.
+    ensures complete { ¬ (Rose (S.faults source.old) (S.faults source.new)) →
+        ¬ (Rose (T.faults sink.old) (T.faults sink.new)) →
         (bytes : List ℕ) → AreInput (texts words.now) (S.left source.old) bytes →
-        IsOutcomeCutShort (texts words.now) bytes (T.written sink.old) (T.written sink.new) }
+        (result ≡ Status.Memory)
+        ⊎ IsOutcomeWritten (texts words.now) bytes (T.written sink.old) (T.written sink.new) result }
 
     // Reading and writing fail only from outside.
     ensures read { result ≡ Status.Read → Rose (S.faults source.old) (S.faults source.new) }
     ensures write { result ≡ Status.Write → Rose (T.faults sink.old) (T.faults sink.new) }
 
     // Nothing is touched without need.
-    ensures silent { IsRefusal result ⊎ ((result ≡ Status.Read) ⊎ (result ≡ Status.Memory)) →
-        sink.new ≡ sink.old }
-    ensures unread { HaveNoCommand (texts words.now) → source.new ≡ source.old }
-    ensures no_read { HaveNoCommand (texts words.now) → result ≢ Status.Read }
+    ensures silent { ¬ IsAnswer result → result ≢ Status.Write → sink.new ≡ sink.old }
+    ensures unread { TakeNothing (texts words.now) → (source.new ≡ source.old) × (result ≢ Status.Read) }
 
     // No byte is taken after the first that is past the limit. What is read as a text is all that
     // was left.
     ensures taken { (bytes : List ℕ) × Gives (S.left source.old) (S.left source.new) bytes
         × Takes result (length bytes) }
-    ensures end { TakesAll result → IsSpent (S.left source.new) }
+    ensures end { TakesAll result → TakeNothing (texts words.now) ⊎ IsSpent (S.left source.new) }
 
-    // Notes get at most the line on the status, and none on an answer. Where they don't fail, they
-    // get it whole, or none of it.
-    ensures quiet { IsAnswer result → notes.new ≡ notes.old }
-    ensures noted { GainsFront (E.written notes.old) (E.written notes.new) (note_line result) }
-    ensures noted_whole { ¬ (Rose (E.faults notes.old) (E.faults notes.new)) → (notes.new ≡ notes.old)
-        ⊎ Gains (E.written notes.old) (E.written notes.new) (note_line result) }
-
-    // Where nothing failed outside and the source tells its bytes, the status is the outcome, or
-    // memory is wanting.
-    ensures complete { ¬ (Rose (S.faults source.old) (S.faults source.new)) →
-        ¬ (Rose (T.faults sink.old) (T.faults sink.new)) →
-        (bytes : List ℕ) → AreInput (texts words.now) (S.left source.old) bytes →
-        (result ≡ Status.Memory)
-        ⊎ IsOutcomeWritten (texts words.now) bytes (T.written sink.old) (T.written sink.new) result }
+    // Notes get at most the line on the status, and none on an answer.
+    ensures noted { IsNoted E.written E.faults notes.old notes.new result }
 {
     let status = perform(alloc, words, source, sink);
     note(alloc, &status, notes);
@@ -92,8 +71,7 @@ pub fn run_calm<E: Sink>(
 ) -> Status
     ensures outcome { (result ≡ Status.Memory)
         ⊎ ((text : List ℕ) × IsOutcome (texts words.now) bytes result text) }
-    ensures quiet { IsAnswer result → notes.new ≡ notes.old }
-    ensures noted { GainsFront (E.written notes.old) (E.written notes.new) (note_line result) }
+    ensures noted { IsNoted E.written E.faults notes.old notes.new result }
 {
     let mut source = CalmSource::new(bytes, piece);
     run(alloc, words, &mut source, &mut CalmSink::new(), notes)
@@ -108,6 +86,20 @@ pub fn one_outcome()
     json_read::one_reading();
 }
 
+/// Words of the plain form mean the command that they say, and are never refused.
+pub fn plain_words()
+    ensures meant { (words : List (List ℕ)) (command : Command) → ArePlainWordsOf words command → AreWordsOf words command }
+    ensures taken { (words : List (List ℕ)) (command : Command) (status : Status) → ArePlainWordsOf words command → ¬ AreRefused words status }
+{}
+
+/// What a run keeps to, it keeps to of all the bytes that were left where that's told, and of any
+/// bytes where the words take nothing.
+pub fn outcome_of_input()
+    ensures { (words : List (List ℕ)) (left before after : Option (List ℕ)) (status : Status) (bytes : List ℕ) →
+        HasOutcome words left before after status → AreInput words left bytes →
+        KeepsToOutcome words bytes before after status }
+{}
+
 /// All but the notes.
 fn perform<S: Source, T: Sink>(
     alloc: Global,
@@ -115,82 +107,36 @@ fn perform<S: Source, T: Sink>(
     source: &mut S,
     sink: &mut T,
 ) -> Status
-    ensures outcome { (bytes : List ℕ) → AreInput (texts words.now) (S.left source.old) bytes →
-        IsFailure result
-        ⊎ IsOutcomeWritten (texts words.now) bytes (T.written sink.old) (T.written sink.new) result }
-    ensures some { (bytes : List ℕ) × AreLeft (S.left source.old) bytes
-        × KeepsToOutcome (texts words.now) bytes (T.written sink.old) (T.written sink.new) result }
-    ensures broken { result ≡ Status.Write →
-        (bytes : List ℕ) → AreInput (texts words.now) (S.left source.old) bytes →
-        IsOutcomeCutShort (texts words.now) bytes (T.written sink.old) (T.written sink.new) }
+    ensures outcome { HasOutcome (texts words.now) (S.left source.old) (T.written sink.old) (T.written sink.new) result }
     ensures read { result ≡ Status.Read → Rose (S.faults source.old) (S.faults source.new) }
     ensures write { result ≡ Status.Write → Rose (T.faults sink.old) (T.faults sink.new) }
-    ensures silent { IsRefusal result ⊎ ((result ≡ Status.Read) ⊎ (result ≡ Status.Memory)) →
-        sink.new ≡ sink.old }
-    ensures unread { HaveNoCommand (texts words.now) → source.new ≡ source.old }
-    ensures no_read { HaveNoCommand (texts words.now) → result ≢ Status.Read }
+    ensures silent { ¬ IsAnswer result → result ≢ Status.Write → sink.new ≡ sink.old }
+    ensures unread { TakeNothing (texts words.now) → (source.new ≡ source.old) × (result ≢ Status.Read) }
     ensures taken { (bytes : List ℕ) × Gives (S.left source.old) (S.left source.new) bytes
         × Takes result (length bytes) }
-    ensures end { TakesAll result → IsSpent (S.left source.new) }
+    ensures end { TakesAll result → TakeNothing (texts words.now) ⊎ IsSpent (S.left source.new) }
 {
     match prepare(alloc, words, source) {
-        Err(status) => status,
-        Ok(output) => match write_all_bytes(sink, output.text.bytes()) {
-            Ok(()) => output.status,
+        Ok(text) => match write_all_bytes(sink, text.bytes()) {
+            Ok(()) => Status::Done,
             Err(_) => Status::Write,
         },
+        Err(status) => status,
     }
 }
 
 /// The text that is due, built whole.
-fn prepare<S: Source>(alloc: Global, words: &[String], source: &mut S) -> Result<Output, Status>
-    ensures outcome { (bytes : List ℕ) → AreInput (texts words.now) (S.left source.old) bytes →
-        (result ≡ Err Status.Read) ⊎ Follows (IsOutcome (texts words.now) bytes) result }
-    ensures some { (bytes : List ℕ) × AreLeft (S.left source.old) bytes
-        × ((result ≡ Err Status.Read) ⊎ Follows (IsOutcome (texts words.now) bytes) result) }
-    ensures answer { IfOk result (λ output. IsAnswer output.status) }
-    ensures cause { IfErr result (λ status.
-        IsRefusal status ⊎ ((status ≡ Status.Read) ⊎ (status ≡ Status.Memory))) }
+fn prepare<S: Source>(alloc: Global, words: &[String], source: &mut S) -> Result<Text, Status>
+    ensures outcome { (bytes : List ℕ) × AreLeft (S.left source.old) bytes
+        × Ends (IsOutcome (texts words.now) bytes) result }
+    ensures unwritten { IfErr result (λ status. status ≢ Status.Write) }
     ensures read { result ≡ Err Status.Read → Rose (S.faults source.old) (S.faults source.new) }
-    ensures unread { HaveNoCommand (texts words.now) → source.new ≡ source.old }
-    ensures no_read { HaveNoCommand (texts words.now) → result ≢ Err Status.Read }
+    ensures unread { TakeNothing (texts words.now) → (source.new ≡ source.old) × (result ≢ Err Status.Read) }
     ensures taken { (bytes : List ℕ) × Gives (S.left source.old) (S.left source.new) bytes
-        × OnOk result (length bytes ≤ MOST_BYTES)
-        × IfErr result (λ status. Takes status (length bytes)) }
-    ensures end { OnOk result (IsSpent (S.left source.new)) }
-    ensures end_err { IfErr result (λ status. TakesAll status → IsSpent (S.left source.new)) }
+        × Takes (status_of result) (length bytes) }
+    ensures end { TakesAll (status_of result) → TakeNothing (texts words.now) ⊎ IsSpent (S.left source.new) }
 {
-    let Command::Show(format) = read_words(words)?;
-    match format {
-        Format::Fold => {
-            let reader = read_whole(source, JsonReader::new(alloc))?;
-            show_fold(alloc, reader)
-        }
-        Format::Cp => {
-            let bytes = read_whole(source, List::new(alloc))?;
-            show_cp(alloc, bytes.as_slice())
-        }
-    }
-}
-
-/// The taker, once it has taken all the bytes that the source has left.
-fn read_whole<S: Source, P: PieceTaker + Drop>(source: &mut S, taker: P) -> Result<P, ReadFault>
-    requires nothing { P.has_taken taker [] }
-    requires none { P.count taker ≡ 0 }
-    ensures all { IfOk result (λ taker. IfSome (S.left source.old) (λ bytes.
-        P.has_taken taker bytes × (length bytes ≤ MOST_BYTES))) }
-    ensures some { IfOk result (λ taker.
-        (text : List ℕ) × P.has_taken taker text × (length text ≤ MOST_BYTES)) }
-    ensures too_long { result ≡ Err ReadFault.TooLong →
-        IfSome (S.left source.old) (λ bytes. MOST_BYTES < length bytes) }
-    ensures failed { result ≡ Err ReadFault.Failed →
-        Rose (S.faults source.old) (S.faults source.new) }
-    ensures taken { (bytes : List ℕ) × Gives (S.left source.old) (S.left source.new) bytes
-        × OnOk result (length bytes ≤ MOST_BYTES)
-        × IfErr result (λ fault. Takes (of_read fault) (length bytes)) }
-    ensures end { OnOk result (IsSpent (S.left source.new)) }
-{
-    let mut taker = taker;
-    read_pieces(source, &mut taker)?;
-    Ok(taker)
+    let command = read_words(alloc, words)?;
+    let input = read_input(alloc, command.format(), source)?;
+    act(alloc, &command, &input)
 }

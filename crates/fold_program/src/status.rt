@@ -1,6 +1,7 @@
 // What the program ends with.
 ghost use Rattle.std.specs.Prelude.{◌≡◌};
 
+use clap::error::ErrorKind;
 use cp_lines::{CpFault, CpReadFault};
 use fold_base::ReadFault;
 use json_read::{JsonFault, JsonReadFault};
@@ -108,6 +109,20 @@ impl From<CpReadFault> for Status {
         match fault {
             CpReadFault::Text(fault) => Status::Text(TextFault::Cp(fault)),
             CpReadFault::Memory(_) => Status::Memory,
+        }
+    }
+}
+
+impl From<clap::Error> for Status {
+    ghost use Rattle.fold_program.specs.Status.{IsOfWords};
+
+    ghost from_gives = { λ error status. IsOfWords error status };
+
+    fn from(error: clap::Error) -> Status {
+        if error.kind() == ErrorKind::OutOfMemory {
+            Status::Memory
+        } else {
+            Status::Words(WordsCause::Refused)
         }
     }
 }

@@ -1,9 +1,12 @@
+use crate::arguments::words_after_name;
 use crate::run::{run, run_calm};
 use crate::status::{Limit, Status, TextFault, WordsCause};
+use crate::words::{Command, Format, ShowOptions, read_words};
 use cp_lines::{CpCause, CpFault};
 use fold_base::{CalmSink, List, MemorySink, MemorySource};
 use json_read::{JsonCause, JsonFault};
 use std::alloc::{AllocError, Global};
+use std::env::{Env, FillError};
 use std::process::Abort;
 use std::test::Fail;
 
@@ -212,29 +215,143 @@ fn names_the_first_fault(rt: HostRuntime) -> Result<(), Fail> {
     Ok(())
 }
 
+/// What `clap` makes of lists of words, by its own rules, and of a value that is none of its option.
+#[test]
+fn reads_words(rt: HostRuntime) -> Result<(), Fail> {
+    let fold = Ok(Format::Fold);
+    let cp = Ok(Format::Cp);
+    let refused = Err(WordsCause::Refused);
+    let value = Err(WordsCause::Value);
+    let rows: [(&[&str], Result<Format, WordsCause>); 48] = [
+        // Of the plain form.
+        (&["show"], fold),
+        (&["show", "--from=fold"], fold),
+        (&["show", "--from=cp"], cp),
+        // Other spellings.
+        (&["show", "--from", "cp"], cp),
+        (&["show", "--from", "fold"], fold),
+        (&["show", "--"], fold),
+        (&["show", "--from=cp", "--"], cp),
+        (&["show", "--from", "cp", "--"], cp),
+        // Another value.
+        (&["show", "--from="], value),
+        (&["show", "--from", ""], value),
+        (&["show", "--from==cp"], value),
+        (&["show", "--from=opx"], value),
+        (&["show", "--from=CP"], value),
+        (&["show", "--from=cp "], value),
+        (&["show", "--from= cp"], value),
+        (&["show", "--from=fold,cp"], value),
+        (&["show", "--from", "show"], value),
+        (&["show", "--from", "help"], value),
+        (&["show", "--from=--from"], value),
+        (&["show", "--from=opx", "--"], value),
+        // No command.
+        (&[], refused),
+        (&["--"], refused),
+        (&[""], refused),
+        (&["fly"], refused),
+        (&["sho"], refused),
+        (&["Show"], refused),
+        (&["shows"], refused),
+        (&["--show"], refused),
+        (&["--from=cp", "show"], refused),
+        (&["--", "show"], refused),
+        (&["fold_program", "show"], refused),
+        // A word that is too many, or no option.
+        (&["show", "show"], refused),
+        (&["show", "cp"], refused),
+        (&["show", ""], refused),
+        (&["show", "-"], refused),
+        (&["show", "--", "--from=cp"], refused),
+        (&["show", "--fro=cp"], refused),
+        (&["show", "--From=cp"], refused),
+        (&["show", "-from=cp"], refused),
+        (&["show", "-f", "cp"], refused),
+        (&["show", "--to=cp"], refused),
+        // An option without its value, or twice.
+        (&["show", "--from"], refused),
+        (&["show", "--from", "--"], refused),
+        (&["show", "--from=cp", "--from=cp"], refused),
+        (&["show", "--from=opx", "--from", "cp"], refused),
+        // A wish for help, and what comes first where more than one thing is wrong.
+        (&["help"], refused),
+        (&["show", "--help"], refused),
+        (&["show", "--from=opx", "--bogus"], refused),
+    ];
+    for (words, expected) in rows {
+        let words = strings(rt.alloc(), words)?;
+        let read = read_words(rt.alloc(), &words);
+        let expected = match expected {
+            Ok(from) => Ok(Command::Show(ShowOptions { from })),
+            Err(cause) => Err(Status::Words(cause)),
+        };
+        assert_eq!(rt; read, expected, "{words:?}");
+    }
+    Ok(())
+}
+
 #[test]
 fn refuses_other_words(rt: HostRuntime) -> Result<(), Fail> {
-    let refused_words: [&[&str]; 6] = [
-        &[],
-        &["fold"],
-        &["--from=cp", "show"],
-        &["Show", "--from=cp"],
-        &["show", "--from", "cp"],
-        &["show", "--from=cp", "--from=cp"],
+    let rows = [
+        refused(&[], WordsCause::Refused, b"fold_program: words refused\n"),
+        refused(
+            &["fly"],
+            WordsCause::Refused,
+            b"fold_program: words refused\n",
+        ),
+        refused(
+            &["show", "--from=opx"],
+            WordsCause::Value,
+            b"fold_program: words value\n",
+        ),
     ];
-    for words in refused_words {
-        let line = b"fold_program: words refused\n";
-        check(&rt, rt.alloc(), refused(words, WordsCause::Refused, line))?;
+    for row in rows {
+        check(&rt, rt.alloc(), row)?;
     }
-    let other_values: [&[&str]; 3] = [
-        &["show", "--from="],
-        &["show", "--from=opx"],
-        &["show", "--from=cp "],
-    ];
-    for words in other_values {
-        let line = b"fold_program: words value\n";
-        check(&rt, rt.alloc(), refused(words, WordsCause::Value, line))?;
+    Ok(())
+}
+
+/// A runtime with words alone, the first of which isn't UTF-8.
+#[derive(Clone, Copy)]
+struct Started<'a> {
+    words: &'a [&'a [u8]],
+}
+
+impl Env for Started<'_> {
+    fn arg(&self, i: usize, buf: &mut [u8]) -> Result<usize, FillError> {
+        match self.words.get(i) {
+            Some(word) if word.len() <= buf.len() => {
+                for (room, byte) in buf.iter_mut().zip(*word) {
+                    *room = *byte;
+                }
+                Ok(word.len())
+            }
+            Some(_) => Err(FillError::TooLong),
+            None => Err(FillError::NotPresent),
+        }
     }
+
+    fn var(&self, _name: &str, _buf: &mut [u8]) -> Result<usize, FillError> {
+        Err(FillError::NotPresent)
+    }
+
+    fn var_at(&self, _i: usize, _buf: &mut [u8]) -> Result<usize, FillError> {
+        Err(FillError::NotPresent)
+    }
+}
+
+#[test]
+fn takes_any_name_of_the_program(rt: HostRuntime) -> Result<(), Fail> {
+    let started = Started {
+        words: &[b"\xff/fold_program", b"show", b"--from=cp"],
+    };
+    let words: Vec<String> = words_after_name(&started, rt.alloc())?.collect(rt.alloc())?;
+    assert_eq!(rt; words, strings(rt.alloc(), SHOW_CP)?);
+    let nameless = Started {
+        words: &[b"", b"\xff"],
+    };
+    assert!(rt; words_after_name(&nameless, rt.alloc()).is_err());
     Ok(())
 }
 
@@ -324,5 +441,13 @@ fn ignores_faults_of_notes(rt: HostRuntime) -> Result<(), Fail> {
     );
     assert_eq!(rt; status, Status::Words(WordsCause::Refused));
     assert_eq!(rt; notes.bytes(), b"fold_".as_slice());
+    let status = run_calm(
+        alloc,
+        &strings(alloc, SHOW_CP)?,
+        List::from_slice(alloc, SHOWN)?,
+        3,
+        &mut CalmSink::new(),
+    );
+    assert_eq!(rt; status, Status::Done);
     Ok(())
 }

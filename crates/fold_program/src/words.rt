@@ -1,14 +1,23 @@
-// The words of the command line, read by hand.
-ghost use Rattle.std.specs.Prelude.{◌≡◌, ◌≢◌, ◌∷◌, ◌++◌, ◌↔◌, [], ℕ, List, IsTrue, IfOk, IfErr, MatchOption, codes};
-ghost use Rattle.fold_program.specs.Words.{texts, name_of, AreWordsOf, AreRefused, AreShowFrom};
+// The words of the command line, read by the crate `clap`.
+ghost use Rattle.std.specs.Prelude.{◌≡◌, ◌≢◌, ◌⊎◌, [], IfOk, IfErr, false, map, option_map};
+ghost use Rattle.clap.specs.Words.{app_of, found_of, rows_of, shape_of, subcommand_rows_of};
+ghost use Rattle.clap.specs.declared.builder.command.Command.TheViews.{out-Command};
+ghost use Rattle.fold_program.specs.Words.{texts, app, faults, found, as_listed, subcommand_shape, said_in, Mean, NamesFormat, Says, AreWordsOf, AreRefused};
 
 use crate::status::{Status, WordsCause};
+use clap::{Arg, ArgAction, ArgMatches};
+use std::alloc::{AllocError, Global};
 
 /// What the words ask for.
 #[derive(Clone, Copy, Debug, PartialEq, Eq)]
 pub enum Command {
     /// Prints the whole input in the printed form of its format.
-    Show(Format),
+    Show(ShowOptions),
+}
+
+#[derive(Clone, Copy, Debug, PartialEq, Eq)]
+pub struct ShowOptions {
+    pub from: Format,
 }
 
 #[derive(Clone, Copy, Debug, PartialEq, Eq)]
@@ -19,56 +28,106 @@ pub enum Format {
     Cp,
 }
 
-pub fn read_words(words: &[String]) -> Result<Command, WordsCause>
-    ensures ok { IfOk result (AreWordsOf (texts words.now)) }
-    ensures err { IfErr result (λ cause. AreRefused (texts words.now) (Status.Words cause)) }
-{
-    if is_show_alone(words) {
-        return Ok(Command::Show(Format::Fold));
-    }
-    match format_shown(words) {
-        Some(name) => match format_of(name) {
-            Some(format) => Ok(Command::Show(format)),
-            None => Err(WordsCause::Value),
-        },
-        None => Err(WordsCause::Refused),
-    }
-}
+impl Command {
+    ghost use Rattle.fold_program.specs.Outcome.{format_of};
 
-fn is_show_alone(words: &[String]) -> bool
-    ensures { IsTrue result ↔ (texts words.now ≡ codes "show" ∷ []) }
-{
-    match words {
-        [command] => command.as_str() == "show",
-        _ => false,
-    }
-}
-
-/// The value of `--from`, where that comes after `show` and nothing else does.
-fn format_shown(words: &[String]) -> Option<&[u8]>
-    ensures { MatchOption result ((value : List ℕ) → ¬ (AreShowFrom value (texts words.now)))
-        (λ value. AreShowFrom value.now (texts words.now)) }
-{
-    match words {
-        [command, option] if command.as_str() == "show" => {
-            option
-                .as_str()
-                .as_bytes()
-                .strip_prefix(b"--from=".as_slice())
+    /// The format of what the command reads.
+    pub fn format(&self) -> Format
+        ensures { result ≡ format_of self.now }
+    {
+        match self {
+            Command::Show(options) => options.from,
         }
-        _ => None,
     }
 }
 
-fn format_of(name: &[u8]) -> Option<Format>
-    ensures { MatchOption result ((format : Format) → ¬ (name.now ≡ name_of format))
-        (λ format. name.now ≡ name_of format) }
+/// A command, and the options that it takes.
+pub struct Entry {
+    name: &'static str,
+    options: &'static [&'static str],
+}
+
+static TABLE: [Entry; 1] = [Entry {
+    name: "show",
+    options: &["from"],
+}];
+
+/// The command that the words mean.
+pub fn read_words(alloc: Global, words: &[String]) -> Result<Command, Status>
+    ensures ok { IfOk result (AreWordsOf (texts words.now)) }
+    ensures err { IfErr result (λ status. (status ≡ Status.Memory) ⊎ AreRefused (texts words.now) status) }
 {
-    if name == b"fold".as_slice() {
-        Some(Format::Fold)
-    } else if name == b"cp".as_slice() {
-        Some(Format::Cp)
+    let matches = matches_of(alloc, words)?;
+    match matches.subcommand() {
+        Some((name, options)) => Ok(command_of(name, options)?),
+        None => Err(Status::Words(WordsCause::Refused)),
+    }
+}
+
+/// What `clap` finds in the words.
+fn matches_of<'a>(alloc: Global, words: &'a [String]) -> Result<ArgMatches<'a>, Status>
+    ensures ok { IfOk result (λ matches. (faults (texts words.entry.now) ≡ [])
+        × (subcommand_rows_of matches ≡ found (texts words.entry.now))) }
+    ensures err { IfErr result (λ status. (status ≡ Status.Memory)
+        ⊎ ((faults (texts words.entry.now) ≢ []) × (status ≡ Status.Words WordsCause.Refused))) }
+{
+    Ok(command_line(alloc)?.try_get_matches_from(words)?)
+}
+
+/// The table as `clap` takes it.
+fn command_line<'a>(alloc: Global) -> Result<clap::Command<'a>, AllocError>
+    ensures { IfOk result (λ line. app_of line ≡ app) }
+{
+    let mut line = clap::Command::new(alloc, "fold_program").no_binary_name(true);
+    for entry in &TABLE {
+        line = line.subcommand(subcommand(alloc, entry)?)?;
+    }
+    Ok(line)
+}
+
+fn subcommand<'a>(alloc: Global, entry: &Entry) -> Result<clap::Command<'a>, AllocError>
+    ensures shape { IfOk result (λ command. shape_of command ≡ subcommand_shape (as_listed entry.now)) }
+    ensures local { IfOk result (λ command. (out-Command command).has_globals ≡ false) }
+{
+    let mut command = clap::Command::new(alloc, entry.name);
+    for name in entry.options {
+        let option = Arg::new(alloc, name).long(name).action(ArgAction::Set);
+        command = command.arg(option)?;
+    }
+    Ok(command)
+}
+
+/// The command with the options that were given.
+fn command_of(name: &str, options: &ArgMatches<'_>) -> Result<Command, WordsCause>
+    ensures ok { IfOk result (Mean name.now (said_in (rows_of (found_of options.now)))) }
+    ensures err { IfErr result (λ cause. (cause ≡ WordsCause.Value)
+        × ((command : Command) → ¬ Mean name.now (said_in (rows_of (found_of options.now))) command)) }
+{
+    if name == "show" {
+        let from = format_of(options.get_str("from"))?;
+        Ok(Command::Show(ShowOptions { from }))
     } else {
-        None
+        // `clap` finds no command but those of the table.
+        Err(WordsCause::Value)
+    }
+}
+
+/// The format that an option says, and FOLD where it isn't given.
+fn format_of(said: Option<&str>) -> Result<Format, WordsCause>
+    ensures ok { IfOk result (Says NamesFormat Format.Fold (option_map (λ text. text.now) said.entry)) }
+    ensures err { IfErr result (λ cause. (cause ≡ WordsCause.Value)
+        × ((format : Format) → ¬ Says NamesFormat Format.Fold (option_map (λ text. text.now) said.entry) format)) }
+{
+    match said {
+        None => Ok(Format::Fold),
+        Some(text) => {
+            if text == "fold" {
+                Ok(Format::Fold)
+            } else if text == "cp" {
+                Ok(Format::Cp)
+            } else {
+                Err(WordsCause::Value)
+            }
+        }
     }
 }

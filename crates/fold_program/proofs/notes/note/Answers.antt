@@ -1,11 +1,16 @@
 use Rattle.std.proofs.Common.{◌≡◌, rules, inr, sym, subst}
 use Rattle.fold_base.specs.Outside.{Gains}
+use Rattle.fold_program.specs.Status.{IsAnswer}
 use Rattle.fold_program.specs.Notes.{GainsFront, note_line}
 use Rattle.fold_program.specs.declared.status.Status.{Status}
 use Rattle.fold_program.proofs.notes.note.Goals as goal
 
-pub returns-in-Memory-clause-whole : goal.returns-in-Memory-clause-whole
-returns-in-Memory-clause-whole g c = λ calm. inr (subst (λ (s : Status). Gains (g.E.Sink.written c.args.notes.now) (g.E.Sink.written c.put_line.new.notes) (note_line s)) (sym c.in-Memory.is) (c.put_line.ensures.whole calm))
+pub returns-in-Memory : goal.returns-in-Memory
+returns-in-Memory g c = record {
+  quiet = λ h. absurd (subst IsAnswer c.in-Memory.is h);
+  line = subst (λ (s : Status). GainsFront (g.E.Sink.written c.args.notes.now) (g.E.Sink.written c.put_line.new.notes) (note_line s)) (sym c.in-Memory.is) c.put_line.ensures.front;
+  whole = λ calm. inr (subst (λ (s : Status). Gains (g.E.Sink.written c.args.notes.now) (g.E.Sink.written c.put_line.new.notes) (note_line s)) (sym c.in-Memory.is) (c.put_line.ensures.whole calm));
+}
 
 pub returns-in-Ok : goal.returns-in-Ok
 returns-in-Ok g c =

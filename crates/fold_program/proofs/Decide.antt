@@ -1,0 +1,144 @@
+-- what the words say is one thing, and something
+use Rattle.std.proofs.Common.{◌≡◌, ◌≢◌, ◌⊎◌, ℕ, true, false, List, [], ◌∷◌, inl, inr, refl, sym, ◌∙◌, ap, subst, codes}
+use Rattle.std.specs.declared.option.Option.{Option}
+use Rattle.std.specs.declared.option.Option.TheVariants.{None, Some}
+use Rattle.std.specs.Option.{option_map_or}
+use Rattle.std.specs.Str.{bytes_eq}
+use Rattle.std.proofs.lemmas.Slice.Eq.{bytes_eq-Decides}
+use Rattle.std.proofs.lemmas.Bool.{false≢true}
+use Rattle.clap.specs.Words.{Kinds, Row}
+use Rattle.fold_program.specs.Words.{Text, name_of, NamesFormat, Says, Mean, AreTaken, AreWordsOf, AreRefused, Reads, TakeNothing, faults, found, said_in}
+use Rattle.fold_program.specs.declared.status.Status.{Status}
+use Rattle.fold_program.specs.declared.status.Status.TheVariants.{Words}
+use Rattle.fold_program.specs.declared.status.WordsCause.TheVariants.{Refused, Value}
+use Rattle.fold_program.specs.declared.words.Command.{Command}
+use Rattle.fold_program.specs.declared.words.Command.TheVariants.{Show}
+use Rattle.fold_program.specs.declared.words.Format.{Format}
+use Rattle.fold_program.specs.declared.words.Format.TheVariants.{Fold, Cp}
+use Rattle.fold_program.proofs.Chain.{Goes, IsStep}
+
+pub same_text : (x y : Text) → (x ≡ y) ⊎ ¬ (x ≡ y)
+same_text x y =
+    let d = bytes_eq-Decides x y in
+    (elim (bytes_eq x y) as (λ r. bytes_eq x y ≡ r → (x ≡ y) ⊎ ¬ (x ≡ y)) [
+      | true ↦ λ e. inl (d.0 e)
+      | false ↦ λ e. inr (λ p. false≢true (sym e ∙ d.1 p))
+    ]) refl
+
+-- ---- the value of an option
+
+-- a text names one value at most
+abbrev NamesOne : {X : Type 0} → (Text → X → Type 0) → Type 0
+NamesOne {X} names = (text : Text) (x y : X) → names text x → names text y → x ≡ y
+
+-- a text names a value, or none
+abbrev NamesOrNot : {X : Type 0} → (Text → X → Type 0) → Type 0
+NamesOrNot {X} names = (text : Text) → ((x : X) × names text x) ⊎ ((x : X) → ¬ names text x)
+
+says_one : {X : Type 0} (names : Text → X → Type 0) (default : X) → NamesOne names → (said : Option Text) (x y : X) → Says names default said x → Says names default said y → x ≡ y
+says_one names default one None x y p q = p ∙ sym q
+says_one names default one (Some text) x y p q = one text x y p q
+
+says_or_not : {X : Type 0} (names : Text → X → Type 0) (default : X) → NamesOrNot names → (said : Option Text) → ((x : X) × Says names default said x) ⊎ ((x : X) → ¬ Says names default said x)
+says_or_not names default some None = inl (default, refl)
+says_or_not names default some (Some text) = some text
+
+format_one : NamesOne NamesFormat
+format_one text Fold Fold p q = refl
+format_one text Fold Cp p q = cc
+format_one text Cp Fold p q = cc
+format_one text Cp Cp p q = refl
+
+format_or_not : NamesOrNot NamesFormat
+format_or_not text =
+    elim (same_text text (codes "fold")) [
+      | inl e ↦ inl (Fold, e)
+      | inr no_fold ↦ elim (same_text text (codes "cp")) [ inl e ↦ inl (Cp, e) | inr no_cp ↦ inr (neither no_fold no_cp) ]
+    ]
+  where
+    neither : ¬ (text ≡ codes "fold") → ¬ (text ≡ codes "cp") → (format : Format) → ¬ NamesFormat text format
+    neither no_fold no_cp Fold e = no_fold e
+    neither no_fold no_cp Cp e = no_cp e
+
+-- ---- the command
+
+mean_one : (name : Text) (said : Text → Option Text) (c d : Command) → Mean name said c → Mean name said d → c ≡ d
+mean_one name said (Show o) (Show p) h k = ap (λ f. Show (record { from = f })) (says_one NamesFormat Fold format_one (said (codes "from")) o.from p.from h.1 k.1)
+
+mean_or_not : (name : Text) (said : Text → Option Text) → ((c : Command) × Mean name said c) ⊎ ((c : Command) → ¬ Mean name said c)
+mean_or_not name said = elim (same_text name (codes "show")) [
+  | inl show ↦ elim (says_or_not NamesFormat Fold format_or_not (said (codes "from"))) [
+    | inl p ↦ inl (Show (record { from = p.0 }), (show, p.1))
+    | inr none ↦ inr (no_value none)
+  ]
+  | inr other ↦ inr (no_name other)
+]
+  where
+    no_value : ((f : Format) → ¬ Says NamesFormat Fold (said (codes "from")) f) → (c : Command) → ¬ Mean name said c
+    no_value none (Show o) h = none o.from h.1
+
+    no_name : ¬ (name ≡ codes "show") → (c : Command) → ¬ Mean name said c
+    no_name other (Show o) h = other h.0
+
+-- every command reads the input
+reads : (command : Command) → Reads command
+reads (Show options) = tt
+
+-- ---- the words
+
+same_name : (n m : Text) (r s : List Row) (o : Option (Text × List Row)) → o ≡ Some (n, r) → o ≡ Some (m, s) → n ≡ m
+same_name n m r s o p q = ap (λ (x : Option (Text × List Row)). option_map_or (λ y. y.0) x []) (sym p ∙ q)
+
+same_rows : (n m : Text) (r s : List Row) (o : Option (Text × List Row)) → o ≡ Some (n, r) → o ≡ Some (m, s) → r ≡ s
+same_rows n m r s o p q = ap (λ (x : Option (Text × List Row)). option_map_or (λ y. y.1) x []) (sym p ∙ q)
+
+-- what two names and rows that `clap` finds in the same words mean is the same
+moved : (words : List Text) (n m : Text) (r s : List Row) (c : Command) → AreTaken words n r → AreTaken words m s → Mean n (said_in r) c → Mean m (said_in s) c
+moved words n m r s c p q h = subst (λ x. Mean x (said_in s) c) (same_name n m r s (found words) p.1 q.1) (subst (λ x. Mean n (said_in x) c) (same_rows n m r s (found words) p.1 q.1) h)
+
+one_command : (words : List Text) (c d : Command) → AreWordsOf words c → AreWordsOf words d → c ≡ d
+one_command words c d p q = mean_one q.0 (said_in q.1) c d (moved words p.0 q.0 p.1 q.1 c p.2 q.2 p.3) q.3
+
+-- `clap` either takes the words or doesn't
+not_both : (words : List Text) (name : Text) (rows : List Row) → (faults words ≢ []) ⊎ (found words ≡ None) → AreTaken words name rows → ⊥
+not_both words name rows (inl h) p = h p.0
+not_both words name rows (inr e) p = let both : None ≡ Some (name, rows) = sym e ∙ p.1 in cc
+
+one_refusal : (words : List Text) (s s' : Status) → AreRefused words s → AreRefused words s' → s ≡ s'
+one_refusal words s s' (inl p) (inl q) = p.1 ∙ sym q.1
+one_refusal words s s' (inl p) (inr q) = absurd (not_both words q.0 q.1 p.0 q.2)
+one_refusal words s s' (inr p) (inl q) = absurd (not_both words p.0 p.1 q.0 p.2)
+one_refusal words s s' (inr p) (inr q) = p.4 ∙ sym q.4
+
+pub apart : (words : List Text) (s : Status) (c : Command) → AreRefused words s → AreWordsOf words c → ⊥
+apart words s c (inl p) q = not_both words q.0 q.1 p.0 q.2
+apart words s c (inr p) q = p.3 c (moved words q.0 p.0 q.1 p.1 c q.2 p.2 q.3)
+
+pub words_step : (words : List Text) → IsStep (AreRefused words) (AreWordsOf words)
+words_step words = record { one_stop = one_refusal words; one_value = one_command words; apart = apart words }
+
+taken_goes : (words : List Text) (name : Text) (rows : List Row) → AreTaken words name rows → Goes (AreRefused words) (AreWordsOf words)
+taken_goes words name rows taken = elim (mean_or_not name (said_in rows)) [
+  | inl p ↦ inr (p.0, (name, rows, taken, p.1))
+  | inr none ↦ inl (Words Value, inr (name, rows, taken, none, refl))
+]
+
+pub words_go : (words : List Text) → Goes (AreRefused words) (AreWordsOf words)
+words_go words = by_faults (faults words) refl
+  where
+    by_found : (o : Option (Text × List Row)) → found words ≡ o → faults words ≡ [] → Goes (AreRefused words) (AreWordsOf words)
+    by_found None e taken = inl (Words Refused, inl (inr e, refl))
+    by_found (Some p) e taken = taken_goes words p.0 p.1 (taken, e)
+
+    by_faults : (kinds : Kinds) → faults words ≡ kinds → Goes (AreRefused words) (AreWordsOf words)
+    by_faults [] e = by_found (found words) refl e
+    by_faults (k ∷ ks) e = inl (Words Refused, inl (inl (λ none. let both = sym e ∙ none in cc), refl))
+
+-- no refusal of words is more than that
+pub refused_words : (words : List Text) (s : Status) → AreRefused words s → (s ≡ Words Refused) ⊎ (s ≡ Words Value)
+refused_words words s (inl p) = inl p.1
+refused_words words s (inr p) = inr p.4
+
+-- words that take nothing have no command
+pub no_command : (words : List Text) (command : Command) → TakeNothing words → AreWordsOf words command → ⊥
+no_command words command nothing h = nothing command h (reads command)

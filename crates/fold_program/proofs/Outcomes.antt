@@ -1,0 +1,129 @@
+-- words and bytes have one outcome
+use Rattle.std.proofs.Common.{◌≡◌, ◌⊎◌, ◌≤◌, ◌<◌, ℕ, List, ◌∷◌, [], ◌++◌, length, inl, inr, refl, sym, ◌∙◌, ap, arith, Some, None, subst}
+use Rattle.std.specs.declared.option.Option.{Option}
+use Rattle.std.proofs.lemmas.Bool.{cases_lt}
+use Rattle.fold_base.specs.declared.outside.TheConstants.{MOST_BYTES}
+use Rattle.cp_lines.specs.CpText.{CpText}
+use Rattle.cp_lines.specs.Print as cp_form
+use Rattle.cp_lines.specs.Reads as cp
+use Rattle.json_tree.specs.Printed as json_form
+use Rattle.json_tree.specs.Spells.{Spells}
+use Rattle.json_read.specs.Causes as json
+use Rattle.fold_program.specs.Steps.{Outcome, Then}
+use Rattle.fold_program.specs.Status.{IsFailure}
+use Rattle.fold_program.specs.Words.{AreWordsOf, AreRefused, TakeNothing}
+use Rattle.fold_program.specs.Outcome.{HaveFault, Spell, AreUnread, AreRead, Makes, format_of, IsOutcome, IsOutcomeWritten, AreInput, AreLeft, KeepsToOutcome, HasOutcome, HaveOutcome, HaveAtMostOneOutcome}
+use Rattle.fold_program.specs.declared.input.Input.{Input}
+use Rattle.fold_program.specs.declared.input.Input.TheVariants as input
+use Rattle.fold_program.specs.declared.status.Status.{Status}
+use Rattle.fold_program.specs.declared.status.Status.TheVariants.{Done, Text, Read, Write, Limit, Memory}
+use Rattle.fold_program.specs.declared.status.TextFault.TheVariants as faults
+use Rattle.fold_program.specs.declared.status.Limit.TheVariants.{TooLong}
+use Rattle.fold_program.specs.declared.words.Command.{Command}
+use Rattle.fold_program.specs.declared.words.Command.TheVariants.{Show}
+use Rattle.fold_program.specs.declared.words.Format.{Format}
+use Rattle.fold_program.specs.declared.words.Format.TheVariants.{Fold, Cp}
+use Rattle.fold_program.proofs.Chain.{Comes, Goes, IsOne, IsStep, one_answer, one_then, some_then}
+use Rattle.fold_program.proofs.Decide.{no_command, words_go, words_step}
+
+-- ---- reading
+
+-- what a text spells is the only thing, as is its first fault; it has one of them, and not both
+pub record HasOneReading {V F : Type 0} (spells : List ℕ → V → Type 0) (names : List ℕ → F → Type 0) : Type 0 where
+  pub value : (bytes : List ℕ) (v w : V) → spells bytes v → spells bytes w → v ≡ w
+  pub fault : (bytes : List ℕ) (f g : F) → names bytes f → names bytes g → f ≡ g
+  pub either : (bytes : List ℕ) (v : V) (f : F) → spells bytes v → names bytes f → ⊥
+  pub some : (bytes : List ℕ) → ((value : V) × spells bytes value) ⊎ ((fault : F) × names bytes fault)
+
+-- the texts of both formats have one reading
+pub record HaveOneReading : Type 0 where
+  pub fold : HasOneReading Spells json.NamesFirstFault
+  pub cp : HasOneReading CpText cp.NamesFirstFault
+
+one_fault : HaveOneReading → (format : Format) (bytes : List ℕ) (s s' : Status) → HaveFault format bytes s → HaveFault format bytes s' → s ≡ s'
+one_fault one Fold bytes s s' p q = p.2 ∙ ap (λ f. Text (faults.Json f)) (one.fold.fault bytes p.0 q.0 p.1 q.1) ∙ sym q.2
+one_fault one Cp bytes s s' p q = p.2 ∙ ap (λ f. Text (faults.Cp f)) (one.cp.fault bytes p.0 q.0 p.1 q.1) ∙ sym q.2
+
+one_spelled : HaveOneReading → (format : Format) (bytes : List ℕ) (x y : Input) → Spell format bytes x → Spell format bytes y → x ≡ y
+one_spelled one Fold bytes (input.Fold v) (input.Fold w) p q = ap input.Fold (one.fold.value bytes v w p q)
+one_spelled one Fold bytes (input.Fold v) (input.Cp w) p q = absurd q
+one_spelled one Fold bytes (input.Cp v) y p q = absurd p
+one_spelled one Cp bytes (input.Fold v) y p q = absurd p
+one_spelled one Cp bytes (input.Cp v) (input.Fold w) p q = absurd q
+one_spelled one Cp bytes (input.Cp v) (input.Cp w) p q = ap input.Cp (one.cp.value bytes v w p q)
+
+not_both : HaveOneReading → (format : Format) (bytes : List ℕ) (s : Status) (x : Input) → HaveFault format bytes s → Spell format bytes x → ⊥
+not_both one Fold bytes s (input.Fold v) p q = one.fold.either bytes v p.0 q p.1
+not_both one Fold bytes s (input.Cp v) p q = q
+not_both one Cp bytes s (input.Fold v) p q = q
+not_both one Cp bytes s (input.Cp v) p q = one.cp.either bytes v p.0 q p.1
+
+one_unread : HaveOneReading → (format : Format) (bytes : List ℕ) (s s' : Status) → AreUnread format bytes s → AreUnread format bytes s' → s ≡ s'
+one_unread one format bytes s s' (inl p) (inl q) = p.1 ∙ sym q.1
+one_unread one format bytes s s' (inl p) (inr q) = absurd (omega arith)
+one_unread one format bytes s s' (inr p) (inl q) = absurd (omega arith)
+one_unread one format bytes s s' (inr p) (inr q) = one_fault one format bytes s s' p.1 q.1
+
+unread_or_read : HaveOneReading → (format : Format) (bytes : List ℕ) (s : Status) (x : Input) → AreUnread format bytes s → AreRead format bytes x → ⊥
+unread_or_read one format bytes s x (inl p) q = omega arith
+unread_or_read one format bytes s x (inr p) q = not_both one format bytes s x p.1 q.1
+
+reading_step : HaveOneReading → (format : Format) (bytes : List ℕ) → IsStep (AreUnread format bytes) (AreRead format bytes)
+reading_step one format bytes = record {
+  one_stop = one_unread one format bytes;
+  one_value = λ x y p q. one_spelled one format bytes x y p.1 q.1;
+  apart = unread_or_read one format bytes;
+}
+
+spelled_or_faulty : HaveOneReading → (format : Format) (bytes : List ℕ) → ((s : Status) × HaveFault format bytes s) ⊎ ((x : Input) × Spell format bytes x)
+spelled_or_faulty one Fold bytes = elim (one.fold.some bytes) [ inl p ↦ inr (input.Fold p.0, p.1) | inr p ↦ inl (Text (faults.Json p.0), (p.0, p.1, refl)) ]
+spelled_or_faulty one Cp bytes = elim (one.cp.some bytes) [ inl p ↦ inr (input.Cp p.0, p.1) | inr p ↦ inl (Text (faults.Cp p.0), (p.0, p.1, refl)) ]
+
+reading_goes : HaveOneReading → (format : Format) (bytes : List ℕ) → Goes (AreUnread format bytes) (AreRead format bytes)
+reading_goes one format bytes = elim (cases_lt MOST_BYTES (length bytes)) [
+  | inl many ↦ inl (Limit TooLong, inl (many, refl))
+  | inr few ↦ elim (spelled_or_faulty one format bytes) [ inl p ↦ inl (p.0, inr (few, p.1)) | inr p ↦ inr (p.0, (few, p.1)) ]
+]
+
+-- ---- the commands
+
+one_made : (command : Command) (spelled : Input) → IsOne (Makes command spelled)
+one_made (Show options) (input.Fold tree) = one_answer _
+one_made (Show options) (input.Cp lines) = one_answer _
+
+some_made : (command : Command) (spelled : Input) → Comes (Makes command spelled)
+some_made (Show options) (input.Fold tree) = (Done, json_form.printed tree ++ 10 ∷ [], (refl, refl))
+some_made (Show options) (input.Cp lines) = (Done, cp_form.printed lines, (refl, refl))
+
+-- ---- words and bytes
+
+pub one_outcome : HaveOneReading → (words : List (List ℕ)) (bytes : List ℕ) → HaveAtMostOneOutcome words bytes
+one_outcome one words bytes = one_then _ _ _ (words_step words) (λ command h. one_then _ _ _ (reading_step one (format_of command) bytes) (λ spelled k. one_made command spelled))
+
+pub some_outcome : HaveOneReading → (words : List (List ℕ)) (bytes : List ℕ) → HaveOutcome words bytes
+some_outcome one words bytes = some_then _ _ _ (words_go words) (λ command h. some_then _ _ _ (reading_goes one (format_of command) bytes) (λ spelled k. some_made command spelled))
+
+-- where the words take nothing, the bytes don't matter
+of_any : (words : List (List ℕ)) → TakeNothing words → (bytes other : List ℕ) (s : Status) (t : List ℕ) → IsOutcome words bytes s t → IsOutcome words other s t
+of_any words nothing bytes other s t (inl p) = inl p
+of_any words nothing bytes other s t (inr p) = absurd (no_command words p.0 nothing p.1)
+
+keeps_of_any : (words : List (List ℕ)) → TakeNothing words → (bytes other : List ℕ) (before after : Option (List ℕ)) (s : Status) → KeepsToOutcome words bytes before after s → KeepsToOutcome words other before after s
+keeps_of_any words nothing bytes other before after s h = (
+  elim h.0 [ inl failed ↦ inl failed | inr p ↦ inr (p.0, of_any words nothing bytes other s p.0 p.1, p.2) ],
+  λ broken. let p = h.1 broken in (p.0, p.1, p.2, of_any words nothing bytes other p.0 p.1 p.3, p.4),
+)
+
+pub outcome_of_input : (words : List (List ℕ)) (left before after : Option (List ℕ)) (s : Status) (bytes : List ℕ) → HasOutcome words left before after s → AreInput words left bytes → KeepsToOutcome words bytes before after s
+outcome_of_input words left before after s bytes h (inl told) =
+    let same : h.0 ≡ bytes = subst (λ l. AreLeft l h.0) told h.1 in
+    subst (λ b. KeepsToOutcome words b before after s) same h.2
+outcome_of_input words left before after s bytes h (inr nothing) = keeps_of_any words nothing h.0 bytes before after s h.2
+
+-- where neither reading nor writing fails
+pub completes : (s : Status) (P : Type 0) → ¬ (s ≡ Read) → ¬ (s ≡ Write) → IsFailure s ⊎ P → (s ≡ Memory) ⊎ P
+completes s P r w (inr p) = inr p
+completes Read P r w (inl h) = absurd (r refl)
+completes Write P r w (inl h) = absurd (w refl)
+completes Memory P r w (inl h) = inl refl
+completes _ P r w (inl h) = absurd h

@@ -1,0 +1,35 @@
+// What the commands do.
+ghost use Rattle.fold_program.specs.Steps.{Follows};
+ghost use Rattle.fold_program.specs.Outcome.{IsSound, Makes, Shows};
+
+use crate::input::Input;
+use crate::status::Status;
+use crate::words::Command;
+use cp_lines::print_cp;
+use fold_base::Text;
+use json_tree::print;
+use std::alloc::Global;
+
+/// The text that the command makes of what was read.
+pub fn act(alloc: Global, command: &Command, input: &Input) -> Result<Text, Status>
+    requires { IsSound input.now }
+    ensures { Follows (Makes command.now input.now) result }
+{
+    match command {
+        Command::Show(_) => show(alloc, input),
+    }
+}
+
+/// The printed form of what was read.
+fn show(alloc: Global, input: &Input) -> Result<Text, Status>
+    requires { IsSound input.now }
+    ensures { Follows (Shows input.now) result }
+{
+    match input {
+        Input::Fold(tree) => {
+            let printed = print(alloc, tree)?;
+            Ok(Text::from_string(format!(in alloc; "{printed}\n")?))
+        }
+        Input::Cp(lines) => Ok(print_cp(alloc, lines)?),
+    }
+}
