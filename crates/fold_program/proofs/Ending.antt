@@ -1,16 +1,20 @@
 -- from what is due to what was written
-use Rattle.std.proofs.Common.{◌≡◌, ◌≢◌, ◌⊎◌, ℕ, List, [], Result, Ok, Err, None, Some, append-nil, inl, inr, refl, sym, subst}
+use Rattle.std.proofs.Common.{◌≡◌, ◌≢◌, ◌⊎◌, ℕ, arith, List, [], Result, Ok, Err, None, Some, append-nil, inl, inr, refl, sym, subst}
 use Rattle.std.specs.declared.option.Option.{Option}
-use Rattle.fold_base.specs.Outside.{Gains, GainsPart}
+use Rattle.fold_base.specs.Outside.{Gains, GainsPart, Gives}
 use Rattle.fold_program.specs.Status.{IsFailure}
 use Rattle.fold_program.specs.Steps.{Ends, Follows, due_with}
+use Rattle.fold_program.specs.Outside.{TakesFrom}
 use Rattle.fold_program.specs.Words.{AreWordsOf, AreRefused}
 use Rattle.fold_program.specs.Outcome.{AreLeft, AreRead, AreUnread, Does, Makes, format_of, IsOutcome, KeepsToOutcome, HasOutcome}
 use Rattle.fold_program.specs.declared.input.Input.{Input}
 use Rattle.fold_program.specs.declared.status.Status.{Status}
-use Rattle.fold_program.specs.declared.status.Status.TheVariants.{Done, Write, Memory}
+use Rattle.fold_program.specs.declared.status.Status.TheVariants.{Done, Words, Write, Memory}
+use Rattle.fold_program.specs.declared.status.WordsCause.{WordsCause}
+use Rattle.fold_program.specs.declared.status.WordsCause.TheVariants.{Refused, Value}
 use Rattle.fold_program.specs.declared.words.Command.{Command}
 use Rattle.fold_program.specs.declared.words.Format.{Format}
+use Rattle.fold_program.proofs.Decide.{refused_words}
 use Rattle.fold_program.proofs.Chain.{ends_following, ends_here, ends_on}
 
 some_left : (left : Option (List ℕ)) → (bytes : List ℕ) × AreLeft left bytes
@@ -53,3 +57,32 @@ stopped words left told status ends other = (ends.0, ends.1, keeps words ends.0 
 pub broken : (words : List (List ℕ)) (left before after : Option (List ℕ)) (text : List ℕ) → ((bytes : List ℕ) × AreLeft left bytes × IsOutcome words bytes Done text)
     → GainsPart before after text → HasOutcome words left before after Write
 broken words left before after text due part = (due.0, due.1, (inl tt, λ e. (Done, text, tt, due.2, part)))
+
+-- ---- the source
+
+gives_none : (told : Option (List ℕ)) → Gives told told []
+gives_none None = tt
+gives_none (Some bytes) = refl
+
+-- where the words are refused, nothing is taken
+pub untaken : {S : Type 0} (left : S → Option (List ℕ)) (faults : S → ℕ) (words : List (List ℕ)) (source : S) (status : Status) → (status ≡ Memory) ⊎ AreRefused words status
+    → TakesFrom left faults words source source status
+untaken {S} left faults words source status (inl memory) = subst (TakesFrom left faults words source source) (sym memory) (record {
+  taken = ([], gives_none (left source), omega arith);
+  all = λ h. absurd h;
+  nothing = λ h. (refl, λ e. cc);
+  failed = λ e. absurd (cc);
+})
+untaken {S} left faults words source status (inr refused) = by_cause (refused_words words status refused)
+  where
+    at : (cause : WordsCause) → TakesFrom left faults words source source (Words cause)
+    at cause = record {
+      taken = ([], gives_none (left source), omega arith);
+      all = λ h. absurd h;
+      nothing = λ h. (refl, λ e. cc);
+      failed = λ e. absurd (cc);
+    }
+
+    by_cause : (status ≡ Words Refused) ⊎ (status ≡ Words Value) → TakesFrom left faults words source source status
+    by_cause (inl e) = subst (TakesFrom left faults words source source) (sym e) (at Refused)
+    by_cause (inr e) = subst (TakesFrom left faults words source source) (sym e) (at Value)

@@ -11,7 +11,7 @@ use Rattle.json_read.specs.Reads.{FinishAnswers}
 use Rattle.json_read.specs.declared.fault.JsonReadFault.{JsonReadFault}
 use Rattle.json_read.specs.declared.fault.JsonReadFault.TheVariants as json
 use Rattle.fold_program.specs.Status.{of_read, of_json, of_cp}
-use Rattle.fold_program.specs.Taken.{Takes, TakesAll}
+use Rattle.fold_program.specs.Outside.{Takes, TakesAll}
 use Rattle.fold_program.specs.Outcome.{AreLeft, IsReading}
 use Rattle.fold_program.specs.declared.words.Format.{Format}
 use Rattle.fold_program.specs.declared.words.Format.TheVariants.{Fold, Cp}

@@ -3,4 +3,4 @@ pub mod Steps
 pub mod Words
 pub mod Outcome
 pub mod Notes
-pub mod Taken
+pub mod Outside

@@ -53,6 +53,12 @@ AreUnread format bytes status = AreTooMany bytes status ⊎ ((length bytes ≤ M
 abbrev pub AreRead : Format → List ℕ → Input → Type 0
 AreRead format bytes spelled = (length bytes ≤ MOST_BYTES) × Spell format bytes spelled
 
+-- what was read is of this format
+abbrev pub HasFormat : Format → Input → Type 0
+HasFormat Fold (input.Fold tree) = Unit {0}
+HasFormat Cp (input.Cp lines) = Unit {0}
+HasFormat _ _ = ⊥
+
 -- what is so of all that is read: a tree is proper, and a line's kind is one of its format
 abbrev pub IsSound : Input → Type 0
 IsSound (input.Fold tree) = IsProper tree

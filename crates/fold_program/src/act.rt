@@ -1,6 +1,6 @@
 // What the commands do.
 ghost use Rattle.fold_program.specs.Steps.{Follows};
-ghost use Rattle.fold_program.specs.Outcome.{IsSound, Makes, Shows};
+ghost use Rattle.fold_program.specs.Outcome.{HasFormat, IsSound, Makes, Shows, format_of};
 
 use crate::input::Input;
 use crate::status::Status;
@@ -12,7 +12,8 @@ use std::alloc::Global;
 
 /// The text that the command makes of what was read.
 pub fn act(alloc: Global, command: &Command, input: &Input) -> Result<Text, Status>
-    requires { IsSound input.now }
+    requires format { HasFormat (format_of command.now) input.now }
+    requires sound { IsSound input.now }
     ensures { Follows (Makes command.now input.now) result }
 {
     match command {

@@ -1,12 +1,12 @@
 // The top call.
-ghost use Rattle.std.specs.Prelude.{◌≡◌, ◌≢◌, ◌⊎◌, List, ℕ, Err, Option, IfErr, length};
-ghost use Rattle.fold_base.specs.Outside.{Rose, Gives, IsSpent};
-ghost use Rattle.fold_program.specs.Status.{IsAnswer, IsFailure, status_of};
+ghost use Rattle.std.specs.Prelude.{◌≡◌, ◌≢◌, ◌⊎◌, List, ℕ, Option, IfErr};
+ghost use Rattle.fold_base.specs.Outside.{Rose};
+ghost use Rattle.fold_program.specs.Status.{status_of};
 ghost use Rattle.fold_program.specs.Steps.{Ends};
-ghost use Rattle.fold_program.specs.Words.{texts, TakeNothing, AreWordsOf, AreRefused, ArePlainWordsOf};
+ghost use Rattle.fold_program.specs.Words.{texts, AreWordsOf, AreRefused, ArePlainWordsOf};
 ghost use Rattle.fold_program.specs.Notes.{IsNoted};
 ghost use Rattle.fold_program.specs.Outcome.{IsOutcome, AreInput, AreLeft, IsOutcomeWritten, KeepsToOutcome, HasOutcome, HaveOutcome, HaveAtMostOneOutcome};
-ghost use Rattle.fold_program.specs.Taken.{Takes, TakesAll};
+ghost use Rattle.fold_program.specs.Outside.{PutsInto, TakesFrom};
 
 use crate::act::act;
 use crate::input::read_input;
@@ -39,22 +39,12 @@ pub fn run<S: Source, T: Sink, E: Sink>(
         (result ≡ Status.Memory)
         ⊎ IsOutcomeWritten (texts words.now) bytes (T.written sink.old) (T.written sink.new) result }
 
+    // No byte is taken after the first that is past the limit, and none where the words take
+    // nothing. Nothing is put where no text is due. Notes get at most the line on the status.
     // Reading and writing fail only from outside.
-    ensures read { result ≡ Status.Read → Rose (S.faults source.old) (S.faults source.new) }
-    ensures write { result ≡ Status.Write → Rose (T.faults sink.old) (T.faults sink.new) }
-
-    // Nothing is touched without need.
-    ensures silent { ¬ IsAnswer result → result ≢ Status.Write → sink.new ≡ sink.old }
-    ensures unread { TakeNothing (texts words.now) → (source.new ≡ source.old) × (result ≢ Status.Read) }
-
-    // No byte is taken after the first that is past the limit. What is read as a text is all that
-    // was left.
-    ensures taken { (bytes : List ℕ) × Gives (S.left source.old) (S.left source.new) bytes
-        × Takes result (length bytes) }
-    ensures end { TakesAll result → TakeNothing (texts words.now) ⊎ IsSpent (S.left source.new) }
-
-    // Notes get at most the line on the status, and none on an answer.
-    ensures noted { IsNoted E.written E.faults notes.old notes.new result }
+    ensures source { TakesFrom S.left S.faults (texts words.now) source.old source.new result }
+    ensures sink { PutsInto T.faults sink.old sink.new result }
+    ensures notes { IsNoted E.written E.faults notes.old notes.new result }
 {
     let status = perform(alloc, words, source, sink);
     note(alloc, &status, notes);
@@ -71,7 +61,7 @@ pub fn run_calm<E: Sink>(
 ) -> Status
     ensures outcome { (result ≡ Status.Memory)
         ⊎ ((text : List ℕ) × IsOutcome (texts words.now) bytes result text) }
-    ensures noted { IsNoted E.written E.faults notes.old notes.new result }
+    ensures notes { IsNoted E.written E.faults notes.old notes.new result }
 {
     let mut source = CalmSource::new(bytes, piece);
     run(alloc, words, &mut source, &mut CalmSink::new(), notes)
@@ -108,13 +98,8 @@ fn perform<S: Source, T: Sink>(
     sink: &mut T,
 ) -> Status
     ensures outcome { HasOutcome (texts words.now) (S.left source.old) (T.written sink.old) (T.written sink.new) result }
-    ensures read { result ≡ Status.Read → Rose (S.faults source.old) (S.faults source.new) }
-    ensures write { result ≡ Status.Write → Rose (T.faults sink.old) (T.faults sink.new) }
-    ensures silent { ¬ IsAnswer result → result ≢ Status.Write → sink.new ≡ sink.old }
-    ensures unread { TakeNothing (texts words.now) → (source.new ≡ source.old) × (result ≢ Status.Read) }
-    ensures taken { (bytes : List ℕ) × Gives (S.left source.old) (S.left source.new) bytes
-        × Takes result (length bytes) }
-    ensures end { TakesAll result → TakeNothing (texts words.now) ⊎ IsSpent (S.left source.new) }
+    ensures source { TakesFrom S.left S.faults (texts words.now) source.old source.new result }
+    ensures sink { PutsInto T.faults sink.old sink.new result }
 {
     match prepare(alloc, words, source) {
         Ok(text) => match write_all_bytes(sink, text.bytes()) {
@@ -130,11 +115,7 @@ fn prepare<S: Source>(alloc: Global, words: &[String], source: &mut S) -> Result
     ensures outcome { (bytes : List ℕ) × AreLeft (S.left source.old) bytes
         × Ends (IsOutcome (texts words.now) bytes) result }
     ensures unwritten { IfErr result (λ status. status ≢ Status.Write) }
-    ensures read { result ≡ Err Status.Read → Rose (S.faults source.old) (S.faults source.new) }
-    ensures unread { TakeNothing (texts words.now) → (source.new ≡ source.old) × (result ≢ Err Status.Read) }
-    ensures taken { (bytes : List ℕ) × Gives (S.left source.old) (S.left source.new) bytes
-        × Takes (status_of result) (length bytes) }
-    ensures end { TakesAll (status_of result) → TakeNothing (texts words.now) ⊎ IsSpent (S.left source.new) }
+    ensures source { TakesFrom S.left S.faults (texts words.now) source.old source.new (status_of result) }
 {
     let command = read_words(alloc, words)?;
     let input = read_input(alloc, command.format(), source)?;

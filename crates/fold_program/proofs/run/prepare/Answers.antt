@@ -1,8 +1,8 @@
-use Rattle.std.proofs.Common.{◌≡◌, rules}
+use Rattle.std.proofs.Common.{rules}
 use Rattle.std.proofs.lemmas.Result.{err_from_is_err_and}
 use Rattle.fold_program.specs.Words.{texts}
 use Rattle.fold_program.proofs.Decide.{no_command}
-use Rattle.fold_program.proofs.Ending.{refused, made}
+use Rattle.fold_program.proofs.Ending.{refused, made, untaken}
 use Rattle.fold_program.proofs.run.prepare.Goals as goal
 
 pub returns-in_err-command-clause-outcome : goal.returns-in_err-command-clause-outcome
@@ -10,11 +10,26 @@ returns-in_err-command-clause-outcome g c =
     let p = err_from_is_err_and c.from_residual.result c.from_residual.ensures.1 in
     rw (p.1, p.2) (refused (texts c.args.words.now) (g.S.Source.left c.args.source.now) _ c.in_err-command.ensures.err)
 
-pub returns-in_err-input-clause-unread : goal.returns-in_err-input-clause-unread
-returns-in_err-input-clause-unread g c = λ nothing. absurd (no_command (texts c.args.words.now) c.in_ok-command.command nothing c.in_ok-command.ensures.ok)
+pub returns-in_err-command-clause-source : goal.returns-in_err-command-clause-source
+returns-in_err-command-clause-source g c =
+    let p = err_from_is_err_and c.from_residual.result c.from_residual.ensures.1 in
+    rw (p.1, p.2) (untaken g.S.Source.left g.S.Source.faults (texts c.args.words.now) c.args.source.now _ c.in_err-command.ensures.err)
 
-pub returns-clause-unread : goal.returns-clause-unread
-returns-clause-unread g c = λ nothing. absurd (no_command (texts c.args.words.now) c.in_ok-command.command nothing c.in_ok-command.ensures.ok)
+pub returns-in_err-input-clause-source : goal.returns-in_err-input-clause-source
+returns-in_err-input-clause-source g c = record {
+  taken = search rules;
+  all = search rules;
+  nothing = λ nothing. absurd (no_command (texts c.args.words.now) c.in_ok-command.command nothing c.in_ok-command.ensures.ok);
+  failed = search rules;
+}
+
+pub returns-clause-source : goal.returns-clause-source
+returns-clause-source g c = record {
+  taken = search rules;
+  all = search rules;
+  nothing = λ nothing. absurd (no_command (texts c.args.words.now) c.in_ok-command.command nothing c.in_ok-command.ensures.ok);
+  failed = search rules;
+}
 
 pub returns-clause-outcome : goal.returns-clause-outcome
 returns-clause-outcome g c =
