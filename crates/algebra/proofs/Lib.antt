@@ -31,5 +31,4 @@ pub mod Numbers
 pub mod RationalQuotient
 pub mod FractionsOfSurds
 pub mod Compatible
-pub mod Geometry
 pub mod SurdBound

@@ -1,5 +1,5 @@
 -- |a| + m |b| is a size of the numbers a + b√k, where k is at most m².
-use Prim.Native.Nat.{ℕ, ◌+◌, ◌*◌, ◌≤◌, ◌<◌, ◌^◌}
+use Prim.Native.Nat.{ℕ, ◌+◌, ◌*◌, ◌≤◌}
 use mathlib.Core.Path.{ap}
 use native.Mathlib.Nat.{mul-le-mul_right, mul-le-mul_left}
 use native.Mathlib.Omega.{arith}
@@ -9,10 +9,7 @@ use Rattle.std.proofs.lemmas.Int.{ints, unsigned_abs-mul}
 use Rattle.algebra.specs.Integers.{int_ops}
 use Rattle.algebra.specs.Size.{IsSize}
 use Rattle.algebra.specs.Surd.{Surd, surd_ops}
-use Rattle.algebra.specs.SurdSize.{surd_size, larger_part, ComparesIn128Bits}
-use Rattle.algebra.specs.declared.plane.Point.{Point}
-use Rattle.algebra.specs.Plane.{IsWithin, crossing, right_of}
-use Rattle.algebra.proofs.Geometry.{comparison_bound}
+use Rattle.algebra.specs.SurdSize.{surd_size}
 
 module _ (k m : ℕ) (k_at_most : k ≤ m * m) where
   sum_bound : (a b : ℤ) → unsigned_abs (a +ℤ b) ≤ unsigned_abs a + unsigned_abs b
@@ -46,16 +43,3 @@ module _ (k m : ℕ) (k_at_most : k ≤ m * m) where
     size_sub = λ x y. omega (arith, difference_bound x.a y.a, mul-le-mul_left m (difference_bound x.b y.b));
     size_mul = λ x y. omega (arith, first_bound x y, mul-le-mul_left m (second_bound x y));
   }
-
--- a part that is no larger than n
-within_parts : (n : ℕ) (p : Point (Surd ℤ)) → IsWithin larger_part n p → IsWithin (surd_size 2) (3 * n) p
-within_parts n p h = record { x_within = omega (arith, h.x_within); y_within = omega (arith, h.y_within) }
-
-larger_part_small : (x : Surd ℤ) → surd_size 2 x < 2 ^ 127 → larger_part x < 2 ^ 127
-larger_part_small x h = omega (arith, h)
-
-pub compares_in_128_bits : (k : ℕ) → k ≤ 4 → ComparesIn128Bits k
-compares_in_128_bits k h a b c d e f ha hb hc hd he hf =
-    larger_part_small (right_of (surd_ops int_ops (pos k)) (crossing (surd_ops int_ops (pos k)) a b c d) (crossing (surd_ops int_ops (pos k)) a b e f))
-    (comparison_bound (surd_sized k 2 h) a b c d e f (within_parts (2 ^ 22) a ha) (within_parts (2 ^ 22) b hb) (within_parts (2 ^ 22) c hc)
-    (within_parts (2 ^ 22) d hd) (within_parts (2 ^ 22) e he) (within_parts (2 ^ 22) f hf))

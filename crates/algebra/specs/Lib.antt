@@ -2,7 +2,6 @@ pub mod Ring
 pub mod Order
 pub mod OrderedRing
 pub mod Size
-pub mod Plane
 pub mod Integers
 pub mod Surd
 pub mod SurdSize

@@ -1,13 +1,15 @@
-ghost use Rattle.std.specs.Prelude.{◌≡◌, ℕ, ℤ, pos, ◌-ℤ◌, ◌*ℤ◌, ◌<ℤ◌, unsigned_abs};
+ghost use Rattle.std.specs.Prelude.{◌≡◌, ℕ, ℤ, pos, ◌≤◌, ◌*◌, ◌-ℤ◌, ◌*ℤ◌, ◌<ℤ◌, unsigned_abs};
 ghost use Rattle.std.specs.Int.{IsGcd};
 ghost use Rattle.std.specs.Ordering.{int_cmp};
 ghost use Rattle.std.specs.declared.cmp.Ordering.TheVariants.{Equal};
 ghost use Rattle.algebra.specs.Ring.{IsRing};
 ghost use Rattle.algebra.specs.Order.{IsOrdered, int_sign};
 ghost use Rattle.algebra.specs.OrderedRing.{OrderedRing};
+ghost use Rattle.algebra.specs.Size.{IsSize};
 ghost use Rattle.algebra.specs.Comparison.{IsCompatible};
 ghost use Rattle.algebra.specs.Integers.{int_ops};
 ghost use Rattle.algebra.specs.Surd.{Surd, IsNonsquare, surd_int, surd_ops, surd_sign};
+ghost use Rattle.algebra.specs.SurdSize.{surd_size};
 ghost use Rattle.algebra.specs.WholeSurds.{HoldsSurds, SurdNumbers};
 ghost use Rattle.algebra.specs.Fraction.{Same, fraction_ops, fraction_sign, inverse};
 ghost use Rattle.algebra.specs.OrderedField.{IsEquality, Respects, IsFieldUpTo, IsOrderedUpTo};
@@ -92,4 +94,10 @@ pub fn whole_number_laws<T>()
     ensures ring { (k : ℕ) (surd : T → Surd ℤ) → IsRadicand k → HoldsSurds k surd → SurdNumbers k surd }
     ensures whole_numbers { HoldsSurds 1 (λ (n : ℤ). surd_int int_ops (pos 1) n) }
     ensures surds { (k : ℕ) → ¬ (k ≡ 1) → HoldsSurds k (λ (x : Surd ℤ). x) }
+{}
+
+/// Sizes: of whole numbers the absolute value, of the numbers a+b√k the sum |a| + m·|b|, where k is at most m².
+pub fn size_laws()
+    ensures whole { IsSize int_ops unsigned_abs }
+    ensures surd { (k m : ℕ) → k ≤ m * m → IsSize (surd_ops int_ops (pos k)) (surd_size m) }
 {}

@@ -1,0 +1,16 @@
+pub mod Signs
+pub mod Lines
+pub mod OnSegments
+pub mod Separation
+pub mod Nearby
+pub mod Members
+pub mod Density
+pub mod Order
+pub mod Turning
+pub mod Around
+pub mod Ways
+pub mod Shares
+pub mod Crossings
+pub mod Along
+pub mod Neighbours
+pub mod First

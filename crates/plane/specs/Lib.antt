@@ -1,0 +1,4 @@
+pub mod Points
+pub mod Lines
+pub mod Segments
+pub mod Directions
