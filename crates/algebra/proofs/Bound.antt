@@ -35,14 +35,14 @@ bound_of limit (opposite e) = bound_of limit e
 -- no bound exceeds its limit: a refusal names the two that do
 pub data Exceeds : ℕ → ℕ → Type 0 where
 
-abbrev fits_by : Bool → ℕ → ℕ → Type 0
+abbrev pub fits_by : Bool → ℕ → ℕ → Type 0
 fits_by true m n = Unit {0}
 fits_by false m n = Exceeds m n
 
 abbrev pub Fits : ℕ → ℕ → Type 0
 Fits m n = fits_by (leb m n) m n
 
-at_most : (m n : ℕ) → Fits m n → m ≤ n
+pub at_most : (m n : ℕ) → Fits m n → m ≤ n
 at_most m n h = leb→le m n (by_test (leb m n) h)
   where
     by_test : (b : Bool) → fits_by b m n → T b

@@ -8,6 +8,8 @@ pub mod PossibleSigns
 pub mod SignReason
 pub mod Sign
 pub mod Bound
+pub mod Bounded
+pub mod Traced
 pub mod Solvers
 pub mod IntegerRing
 pub mod IntegerOrder

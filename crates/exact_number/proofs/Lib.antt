@@ -3,3 +3,4 @@ pub mod Answered
 pub mod NegatedForms
 pub mod WholeSizes
 pub mod Scaled
+pub mod WholeFits

@@ -1,2 +1,3 @@
 pub mod WideForms
 pub mod Scaling
+pub mod Sizes

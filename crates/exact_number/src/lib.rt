@@ -8,12 +8,14 @@ mod laws;
 mod overflow;
 mod reduction;
 mod scaling;
+mod sizes;
 mod whole;
 
 pub use exact::Exact;
-pub use generic::{midpoint, whole_number};
-pub use laws::{scaling_laws, size_laws};
+pub use generic::{midpoint, number_of, scaled_whole, whole_number};
+pub use laws::{root_laws, scaling_laws, size_laws};
 pub use overflow::{Op, Overflow};
 pub use reduction::{gcd, lowest_terms};
 pub use scaling::{MOST_SCALED, scaled_part};
+pub use sizes::{cross, difference};
 pub use whole::Whole;

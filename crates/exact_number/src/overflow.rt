@@ -34,11 +34,15 @@ impl Op {
         x.checked_sub(y).ok_or(Overflow { op: self })
     }
 
+    /// One multiplication of 64 bits where both factors fit them, as most do.
     pub fn product(self, x: i128, y: i128) -> Result<i128, Overflow>
         ensures answer { OkIff result (FitsSigned w128 (x *ℤ y)) (x *ℤ y) }
         ensures overflow { IfErr result (λ e. e.op ≡ self) }
     {
-        x.checked_mul(y).ok_or(Overflow { op: self })
+        match (i64::try_from(x), i64::try_from(y)) {
+            (Ok(a), Ok(b)) => Ok(i128::from(a) * i128::from(b)),
+            _ => x.checked_mul(y).ok_or(Overflow { op: self }),
+        }
     }
 
     /// `x` times -1.
@@ -65,6 +69,8 @@ mod tests {
             Err(Overflow { op: Op::Compare })
         );
         assert_eq!(rt; Op::Mul.product(least, -1), Err(Overflow { op: Op::Mul }));
+        assert_eq!(rt; Op::Mul.product(1 << 64, -1 << 63), Ok(least));
+        assert_eq!(rt; Op::Mul.product(-1 << 63, -1 << 63), Ok(1 << 126));
         assert_eq!(rt; Op::Div.negation(most), Ok(-most));
         assert_eq!(rt; Op::Div.negation(least), Err(Overflow { op: Op::Div }));
     }
