@@ -1,8 +1,10 @@
 -- Bounds on what calls computed, found through what each call ensures: no list of variables is asked for.
 use Prim.Native.Nat.{ℕ, ◌+◌, ◌*◌, ◌≤◌}
+use mathlib.Core.Bool.{Bool, true, false}
 use mathlib.Core.Path.{◌≡◌, sym, subst}
 use native.Mathlib.Nat.{le_trans, mul-le-mul}
 use native.Mathlib.Omega.{arith}
+use lib.Dec.{leb, T, leb→le}
 use lib.IntN.{ℤ}
 use Rattle.std.specs.Prelude.{unsigned_abs}
 use Rattle.algebra.specs.Ring.{Operations}
@@ -37,3 +39,20 @@ module _ {A : Type 0} {ops : Operations A} {size : A → ℕ} where
     within_limit (bounded_sub {a} {b} t s) = omega (arith, sized.size_sub a b, within_limit t, within_limit s)
     within_limit (bounded_mul {a} {b} t s) = le_trans (sized.size_mul a b) (mul-le-mul (within_limit t) (within_limit s))
     within_limit (bounded_neg {a} t) = le_trans (sized.size_neg a) (within_limit t)
+
+-- no bound exceeds its limit: a refusal names the two that do
+pub data Exceeds : ℕ → ℕ → Type 0 where
+
+abbrev fits_by : Bool → ℕ → ℕ → Type 0
+fits_by true m n = Unit {0}
+fits_by false m n = Exceeds m n
+
+abbrev pub Fits : ℕ → ℕ → Type 0
+Fits m n = fits_by (leb m n) m n
+
+pub at_most : (m n : ℕ) → Fits m n → m ≤ n
+at_most m n h = leb→le m n (by_test (leb m n) h)
+  where
+    by_test : (b : Bool) → fits_by b m n → T b
+    by_test true h = tt
+    by_test false h = elim h [ ]

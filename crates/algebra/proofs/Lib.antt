@@ -7,7 +7,6 @@ pub mod Identity
 pub mod PossibleSigns
 pub mod SignReason
 pub mod Sign
-pub mod Bound
 pub mod Bounded
 pub mod Traced
 pub mod Solvers
