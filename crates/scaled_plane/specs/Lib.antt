@@ -1,0 +1,12 @@
+pub mod Segments
+pub mod Lists
+pub mod Pieces
+pub mod Drawn
+pub mod WellSet
+pub mod Walks
+pub mod Regions
+pub mod Sheets
+pub mod Scaling
+pub mod Sizes
+pub mod Counts
+pub mod Multiples
