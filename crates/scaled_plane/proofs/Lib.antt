@@ -1,6 +1,3 @@
-pub mod Bounded
-pub mod Traced
-pub mod WholeFits
 pub mod DrawnSizes
 pub mod After
 pub mod Multiples

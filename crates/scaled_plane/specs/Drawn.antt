@@ -4,6 +4,7 @@ use Rattle.algebra.specs.Surd.{Surd}
 use Rattle.algebra.specs.SurdSize.{larger_part}
 use Rattle.algebra.specs.WholeSurds.{SurdNumbers}
 use Rattle.plane.specs.declared.point.Point.{Point}
+use Rattle.scaled_plane.specs.declared.point.Segment.{Segment}
 use Rattle.plane.specs.Lines.{crossing}
 use Rattle.plane.specs.Directions.{AreParallel}
 
@@ -34,6 +35,11 @@ module _ {A : Type 0} {k : ℕ} {surd : A → Surd ℤ} (numbers : SurdNumbers k
   -- a scaled point: no part is larger in size than 2^22
   abbrev pub IsScaledPoint : Point A → Type 0
   IsScaledPoint p = IsScaledWithin (2 ^ 22) p
+
+  -- a segment between scaled points
+  pub record IsScaledSegment (s : Segment A) : Type 0 where
+    pub from : IsScaledPoint s.from
+    pub to : IsScaledPoint s.to
 
   -- a drawn point: a scaled point, or where two lines through scaled points cross
   abbrev pub IsDrawn : Point A → Type 0

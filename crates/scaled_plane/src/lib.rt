@@ -10,8 +10,8 @@ mod scaling;
 mod sheet;
 
 pub use drawing::{Drawing, Edge, Ends, Face};
-pub use drawn::{compare_points, cross, cross_point, line_through, orient};
-pub use laws::one_piece_after;
+pub use drawn::{compare_points, compare_sized, cross_point, line_through, orient};
+pub use laws::{degree_bounds, one_piece_after};
 pub use point::{Pair, Scaled, Segment};
 pub use scaled::{ScaleFault, scale_all};
 pub use scaling::{MOST_COMMON, common_denominator, common_multiple};
