@@ -102,3 +102,42 @@ module _ {A : Type 0} {k : ℕ} {surd : A → Surd ℤ} (numbers : SurdNumbers k
       let h : IsDrawnSize surd p = drawn_size p hp in
       let j : IsDrawnSize surd q = drawn_size q hq in
       size_in_range numbers k_at_most (bounded_sub (bounded_mul (bounded h.y_within) (bounded j.w_within)) (bounded_mul (bounded j.y_within) (bounded h.w_within))) tt
+
+  -- ---- points drawn from parts of at most 2^15
+
+  pub record IsSmallSize (p : Point A) : Type 0 where
+    pub x_within : whole_size (surd p.x) ≤ 27 * 2 ^ 48
+    pub y_within : whole_size (surd p.y) ≤ 27 * 2 ^ 48
+    pub w_within : whole_size (surd p.w) ≤ 9 * 2 ^ 33
+
+  small_scaled : (p : Point A) → IsScaledWithin numbers (2 ^ 15) p → IsSmallSize p
+  small_scaled p h = record {
+    x_within = size_in_range numbers k_at_most (search bounds depth 20) tt;
+    y_within = size_in_range numbers k_at_most (search bounds depth 20) tt;
+    w_within = size_in_range numbers k_at_most (search bounds depth 20) tt;
+  }
+
+  small_meeting : (a b c d : Point A) → IsScaledWithin numbers (2 ^ 15) a → IsScaledWithin numbers (2 ^ 15) b → IsScaledWithin numbers (2 ^ 15) c → IsScaledWithin numbers (2 ^ 15) d
+      → IsSmallSize (meeting numbers.ops (line numbers.ops a b) (line numbers.ops c d))
+  small_meeting a b c d ha hb hc hd = record {
+    x_within = size_in_range numbers k_at_most (search bounds depth 20 fits 50000) tt;
+    y_within = size_in_range numbers k_at_most (search bounds depth 20 fits 50000) tt;
+    w_within = size_in_range numbers k_at_most (search bounds depth 20 fits 50000) tt;
+  }
+
+  small_point : (o : Ordering) (p : Point A) → IsSmallSize p → IsSmallSize (match_ordering o (opposite_vector numbers.ops p) p p)
+  small_point Less p h =
+      let sized = whole_sized k surd numbers k_at_most in
+      record {
+        x_within = le_trans (sized.size_neg p.x) h.x_within;
+        y_within = le_trans (sized.size_neg p.y) h.y_within;
+        w_within = le_trans (sized.size_neg p.w) h.w_within;
+      }
+  small_point Equal p h = h
+  small_point Greater p h = h
+
+  pub small_size : (p : Point A) → IsDrawnWithin numbers (2 ^ 15) p → IsSmallSize p
+  small_size p (inl h) = small_scaled p h
+  small_size p (inr h) =
+      let m = meeting numbers.ops (line numbers.ops h.a h.b) (line numbers.ops h.c h.d) in
+      subst IsSmallSize (sym h.is) (small_point (numbers.sign m.w) m (small_meeting h.a h.b h.c h.d h.a_scaled h.b_scaled h.c_scaled h.d_scaled))

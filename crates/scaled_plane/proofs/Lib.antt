@@ -3,3 +3,5 @@ pub mod After
 pub mod Multiples
 pub mod Denominators
 pub mod Widths
+pub mod Conjugates
+pub mod Quotients

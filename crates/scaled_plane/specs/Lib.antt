@@ -7,6 +7,7 @@ pub mod Walks
 pub mod Regions
 pub mod Sheets
 pub mod Scaling
+pub mod Exact
 pub mod Sizes
 pub mod Counts
 pub mod Multiples

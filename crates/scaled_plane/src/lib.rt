@@ -3,6 +3,7 @@
 
 mod drawing;
 mod drawn;
+mod exact;
 mod laws;
 mod point;
 mod scaled;
@@ -11,6 +12,7 @@ mod sheet;
 
 pub use drawing::{Drawing, Edge, Ends, Face};
 pub use drawn::{compare_points, compare_sized, cross_point, line_through, orient};
+pub use exact::{MOST_EXACT, exact_point};
 pub use laws::{degree_bounds, one_piece_after};
 pub use point::{Pair, Scaled, Segment};
 pub use scaled::{ScaleFault, scale_all};
