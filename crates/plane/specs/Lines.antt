@@ -46,12 +46,14 @@ module _ {A : Type 0} (ops : Operations A) where
   abbrev pub determinant : Point A → Point A → Point A → A
   determinant p q r = value (line p q) r
 
--- of two signs, such as the sides of two points of one line, not both are above zero, and not both below
+-- of two signs, such as the sides of two points of one line, not both are above zero, and not both
+-- below
 abbrev pub AreApart : Ordering → Ordering → Type 0
 AreApart o p = IsTrue (is_le (product_sign o p))
 
 module _ {A : Type 0} (K : OrderedRing A) where
-  -- on which side of the line from a to b the point p lies: `Greater` on the left, `Less` on the right, `Equal` on the line
+  -- on which side of the line from a to b the point p lies: `Greater` on the left, `Less` on the
+  -- right, `Equal` on the line
   abbrev pub side : Point A → Point A → Point A → Ordering
   side a b p = K.sign (determinant K.ops a b p)
 

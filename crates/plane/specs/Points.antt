@@ -1,5 +1,6 @@
--- Points of the plane as vectors (x, y, w) with w above zero, over an ordered ring. The vector stands for the point
--- (x / w, y / w), so that it and its multiples by numbers above zero are one point.
+-- Points of the plane as vectors (x, y, w) with w above zero, over an ordered ring. The vector
+-- stands for the point (x / w, y / w), so that it and its multiples by numbers above zero are one
+-- point.
 use Rattle.std.specs.Prelude.{◌≡◌, pos}
 use Rattle.std.specs.Ordering.{ordering_then}
 use Rattle.std.specs.declared.cmp.Ordering.{Ordering}

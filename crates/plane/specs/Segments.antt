@@ -11,7 +11,8 @@ abbrev pub middle : {A : Type 0} → Operations A → Point A → Point A → Po
 middle ops a b = combination ops b.w a a.w b
 
 module _ {A : Type 0} (K : OrderedRing A) where
-  -- p lies on the closed segment from a to b, which may be a point: a multiple of p is a sum of multiples of the ends
+  -- p lies on the closed segment from a to b, which may be a point: a multiple of p is a sum of
+  -- multiples of the ends
   pub record IsOn (a b p : Point A) : Type 0 where
     pub factor : A
     pub from_share : A

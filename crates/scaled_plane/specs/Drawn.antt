@@ -1,4 +1,5 @@
--- The points that drawings have: those with whole coordinates, and those where two lines through such points cross.
+-- The points that drawings have: those with whole coordinates, and those where two lines through
+-- such points cross.
 use Rattle.std.specs.Prelude.{◌≡◌, ◌⊎◌, ℕ, ℤ, pos, ◌≤◌, ◌^◌}
 use Rattle.algebra.specs.Surd.{Surd}
 use Rattle.algebra.specs.SurdSize.{larger_part}

@@ -7,7 +7,8 @@ use Rattle.exact_number.specs.Sizes.{whole_size}
 use Rattle.plane.specs.declared.point.Point.{Point}
 use Rattle.scaled_plane.specs.declared.point.Pair.{Pair}
 
--- y is the conjugate a - b√k of x, or the opposite of that: the product of the two has no root in it
+-- y is the conjugate a - b√k of x, or the opposite of that: the product of the two has no root in
+-- it
 pub record IsConjugate (x y : Surd ℤ) : Type 0 where
   pub rational : x.a *ℤ y.b +ℤ x.b *ℤ y.a ≡ pos 0
   pub same_size : whole_size y ≡ whole_size x
@@ -24,7 +25,8 @@ pub record IsNarrow (r : Parts) : Type 0 where
   pub q_within : unsigned_abs r.q ≤ 2 ^ 92
 
 module _ {W : Type 0} (k : ℕ) (surd : W → Surd ℤ) (p : Point W) (common : ℤ) where
-  -- some coordinate of the point over the common denominator has a part, in lowest terms, that is larger in size than 2^92
+  -- some coordinate of the point over the common denominator has a part, in lowest terms, that is
+  -- larger in size than 2^92
   abbrev pub IsTooWideExact : Type 0
   IsTooWideExact = (r : Parts) × (IsQuotient k (surd p.x) (surd p.w) common r ⊎ IsQuotient k (surd p.y) (surd p.w) common r) × ¬ IsNarrow r
 

@@ -42,7 +42,8 @@ module _ {A : Type 0} (K : OrderedRing A) (vertices : List (Point A)) (edges : L
   abbrev pub IsBounded : Point A → Type 0
   IsBounded p = (n d : A) × (K.sign d ≡ Greater) × ((q : Point A) → AreInOneRegion K vertices edges p q → IsInBox K n d q)
 
-  -- p lies strictly to the left of the way from a to b, and the segment from p to m meets no piece before m
+  -- p lies strictly to the left of the way from a to b, and the segment from p to m meets no piece
+  -- before m
   pub record SeesFromLeft (a b m p : Point A) : Type 0 where
     pub point : IsPoint K p
     pub left : side K a b p ≡ Greater

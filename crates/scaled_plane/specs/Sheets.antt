@@ -44,8 +44,9 @@ module _ {A : Type 0} (K : OrderedRing A) (vertices : List (Point A)) where
   MeetBesideEnds e f = (p : Point A) × IsOnBoth K (position e.from) (position e.to) (position f.from) (position f.to) p
       × ¬ (IsEnd K (position e.from) (position e.to) p × IsEnd K (position f.from) (position f.to) p)
 
-  -- Some corner of the face is its corner c, with b before it and d after it: b is d, so that the face turns straight back at
-  -- c, or another corner lies strictly to the right of the line from b to c.
+  -- Some corner of the face is its corner c, with b before it and d after it: b is d, so that the
+  -- face turns straight back at c, or another corner lies strictly to the right of the line from b
+  -- to c.
   pub record IsBentAt (corners before : List ℕ) (c : ℕ) (after : List ℕ) : Type 0 where
     pub is : corners ≡ before ++ c ∷ after
     pub b : ℕ

@@ -24,7 +24,8 @@ module _ {A : Type 0} {k : ℕ} {surd : A → Surd ℤ} (numbers : SurdNumbers k
   abbrev pub count : ℕ
   count = length drawing.vertices
 
-  -- the line names two vertices, which are scaled points, and the edge lies on the line through them
+  -- the line names two vertices, which are scaled points, and the edge lies on the line through
+  -- them
   pub record LiesAlong (e : Edge) (line : ℕ × ℕ) : Type 0 where
     pub first_in_range : line.0 < count
     pub second_in_range : line.1 < count
