@@ -1,0 +1,6 @@
+pub mod Lists
+pub mod Tests
+pub mod Letters
+pub mod Cutting
+pub mod Covering
+pub mod Drawings

@@ -1,0 +1,34 @@
+-- Small drawings over the whole numbers: what they are cut into, and which piece follows which.
+use Rattle.std.specs.Prelude.{ℕ, ℤ, pos, List}
+use Rattle.std.specs.List.{AllByRecursion}
+use Rattle.fold_base.specs.declared.letter.Letter.{Letter}
+use Rattle.algebra.proofs.Integers.{integers}
+use Rattle.plane.specs.declared.point.Point.{Point}
+use Rattle.scaled_plane.specs.declared.point.Segment.{Segment}
+use Rattle.scaled_plane.specs.declared.drawing.Edge.{Edge}
+use Rattle.scaled_plane.specs.Pieces.{AreLines, ArePieces, AreVertices}
+use Rattle.scaled_plane.specs.Walks.{ComesAfter}
+
+-- the point (x, y)
+abbrev pub at : ℤ → ℤ → Point ℤ
+at x y = record { x = x; y = y; w = pos 1 }
+
+-- the point (x / w, y / w)
+abbrev pub over : ℤ → ℤ → ℤ → Point ℤ
+over x y w = record { x = x; y = y; w = w }
+
+abbrev pub crease : Letter → Point ℤ → Point ℤ → Segment ℤ
+crease letter p q = record { from = p; to = q; letter = letter }
+
+abbrev pub edge : ℕ → ℕ → Letter → Edge
+edge u v letter = record { from = u; to = v; letter = letter }
+
+-- the segments have these vertices, these pieces with their letters, and these lines of the pieces
+pub record AreCutInto (segments : List (Segment ℤ)) (vertices : List (Point ℤ)) (edges : List Edge) (lines : List (ℕ × ℕ)) : Type 0 where
+  pub vertices_are : AreVertices integers segments vertices
+  pub pieces_are : ArePieces integers segments vertices edges
+  pub lines_are : AreLines integers segments vertices edges lines
+
+-- for each u, v, w of the list: after the directed piece (u, v) comes (v, w)
+abbrev pub FollowAs : List (Point ℤ) → List Edge → List (ℕ × ℕ × ℕ) → Type 0
+FollowAs vertices edges table = AllByRecursion (λ t. ComesAfter integers vertices edges t.0 t.1 t.2) table

@@ -1,0 +1,72 @@
+//! Small drawings whose vertices, pieces, letters and following pieces are known, as proved clauses: what the definitions of
+//! drawings say of them.
+#![tactic(auto)]
+
+ghost use Rattle.std.specs.Prelude.{pos, negsuc, [], ◌∷◌};
+ghost use Rattle.fold_base.specs.declared.letter.Letter.TheVariants.{Border, Mountain, Unassigned, Valley};
+ghost use Rattle.drawing_examples.specs.Examples.{AreCutInto, at, crease, edge, over};
+
+/// What small drawings are cut into: their vertices in order, their pieces with the letters that are left of those that cover
+/// each, and the line of each piece.
+pub fn small_drawings()
+    ensures nothing { AreCutInto
+        (crease Mountain (at (pos 1) (pos 1)) (at (pos 1) (pos 1)) ∷ [])
+        ([])
+        ([])
+        ([]) }
+    ensures single { AreCutInto
+        (crease Mountain (at (pos 0) (pos 0)) (at (pos 1) (pos 0)) ∷ [])
+        (at (pos 0) (pos 0) ∷ at (pos 1) (pos 0) ∷ [])
+        (edge 0 1 Mountain ∷ [])
+        ((0, 1) ∷ []) }
+    ensures cross { AreCutInto
+        (crease Mountain (at (pos 0) (pos 0)) (at (pos 2) (pos 2)) ∷
+        crease Valley (at (pos 0) (pos 2)) (at (pos 2) (pos 0)) ∷ [])
+        (at (pos 0) (pos 0) ∷ at (pos 0) (pos 2) ∷ at (pos 1) (pos 1) ∷ at (pos 2) (pos 0) ∷ at (pos 2) (pos 2) ∷
+        [])
+        (edge 0 2 Mountain ∷ edge 1 2 Valley ∷ edge 2 3 Valley ∷ edge 2 4 Mountain ∷ [])
+        ((0, 4) ∷ (1, 3) ∷ (1, 3) ∷ (0, 4) ∷ []) }
+    ensures tee { AreCutInto
+        (crease Mountain (at (pos 0) (pos 0)) (at (pos 2) (pos 0)) ∷
+        crease Valley (at (pos 1) (pos 0)) (at (pos 1) (pos 1)) ∷ [])
+        (at (pos 0) (pos 0) ∷ at (pos 1) (pos 0) ∷ at (pos 1) (pos 1) ∷ at (pos 2) (pos 0) ∷ [])
+        (edge 0 1 Mountain ∷ edge 1 2 Valley ∷ edge 1 3 Mountain ∷ [])
+        ((0, 3) ∷ (1, 2) ∷ (0, 3) ∷ []) }
+    ensures along { AreCutInto
+        (crease Mountain (at (pos 0) (pos 0)) (at (pos 3) (pos 0)) ∷
+        crease Valley (at (pos 1) (pos 0)) (at (pos 2) (pos 0)) ∷
+        crease Mountain (at (pos 2) (pos 0)) (at (pos 1) (pos 0)) ∷ [])
+        (at (pos 0) (pos 0) ∷ at (pos 1) (pos 0) ∷ at (pos 2) (pos 0) ∷ at (pos 3) (pos 0) ∷ [])
+        (edge 0 1 Mountain ∷ edge 1 2 Unassigned ∷ edge 2 3 Mountain ∷ [])
+        ((0, 3) ∷ (0, 3) ∷ (0, 3) ∷ []) }
+    ensures border_wins { AreCutInto
+        (crease Mountain (at (pos 0) (pos 0)) (at (pos 2) (pos 0)) ∷
+        crease Border (at (pos 3) (pos 0)) (at (pos 1) (pos 0)) ∷ [])
+        (at (pos 0) (pos 0) ∷ at (pos 1) (pos 0) ∷ at (pos 2) (pos 0) ∷ at (pos 3) (pos 0) ∷ [])
+        (edge 0 1 Mountain ∷ edge 1 2 Border ∷ edge 2 3 Border ∷ [])
+        ((0, 2) ∷ (0, 2) ∷ (1, 3) ∷ []) }
+    ensures diagonals { AreCutInto
+        (crease Border (at (pos 0) (pos 0)) (at (pos 1) (pos 0)) ∷
+        crease Border (at (pos 1) (pos 0)) (at (pos 1) (pos 1)) ∷
+        crease Border (at (pos 1) (pos 1)) (at (pos 0) (pos 1)) ∷
+        crease Border (at (pos 0) (pos 1)) (at (pos 0) (pos 0)) ∷
+        crease Mountain (at (pos 0) (pos 0)) (at (pos 1) (pos 1)) ∷
+        crease Valley (at (pos 0) (pos 1)) (at (pos 1) (pos 0)) ∷ [])
+        (at (pos 0) (pos 0) ∷ at (pos 0) (pos 1) ∷ over (pos 1) (pos 1) (pos 2) ∷ at (pos 1) (pos 0) ∷
+        at (pos 1) (pos 1) ∷ [])
+        (edge 0 1 Border ∷ edge 0 2 Mountain ∷ edge 0 3 Border ∷ edge 1 2 Valley ∷ edge 1 4 Border ∷
+        edge 2 3 Valley ∷ edge 2 4 Mountain ∷ edge 3 4 Border ∷ [])
+        ((0, 1) ∷ (0, 4) ∷ (0, 3) ∷ (1, 3) ∷ (1, 4) ∷ (1, 3) ∷ (0, 4) ∷ (3, 4) ∷ []) }
+    ensures overlap { AreCutInto
+        (crease Border (at (pos 0) (negsuc 0)) (at (pos 3) (negsuc 0)) ∷
+        crease Border (at (pos 3) (negsuc 0)) (at (pos 3) (pos 1)) ∷
+        crease Border (at (pos 3) (pos 1)) (at (pos 0) (pos 1)) ∷
+        crease Border (at (pos 0) (pos 1)) (at (pos 0) (negsuc 0)) ∷
+        crease Mountain (at (pos 0) (pos 0)) (at (pos 2) (pos 0)) ∷
+        crease Valley (at (pos 1) (pos 0)) (at (pos 3) (pos 0)) ∷ [])
+        (at (pos 0) (negsuc 0) ∷ at (pos 0) (pos 0) ∷ at (pos 0) (pos 1) ∷ at (pos 1) (pos 0) ∷
+        at (pos 2) (pos 0) ∷ at (pos 3) (negsuc 0) ∷ at (pos 3) (pos 0) ∷ at (pos 3) (pos 1) ∷ [])
+        (edge 0 1 Border ∷ edge 0 5 Border ∷ edge 1 2 Border ∷ edge 1 3 Mountain ∷ edge 2 7 Border ∷
+        edge 3 4 Unassigned ∷ edge 4 6 Valley ∷ edge 5 6 Border ∷ edge 6 7 Border ∷ [])
+        ((0, 2) ∷ (0, 5) ∷ (0, 2) ∷ (1, 4) ∷ (2, 7) ∷ (1, 4) ∷ (3, 6) ∷ (5, 7) ∷ (5, 7) ∷ []) }
+{}
