@@ -11,9 +11,10 @@ use Rattle.plane.specs.Points.{point_order}
 use Rattle.scaled_plane.specs.declared.point.Segment.{Segment}
 use Rattle.scaled_plane.specs.declared.drawing.Edge.{Edge}
 use Rattle.scaled_plane.specs.Pieces.{edge_order}
-use Rattle.drawing_examples.specs.Examples.{AreCutInto}
+use Rattle.drawing_examples.specs.Examples.{AreCutInto, FollowAs}
 use Rattle.drawing_examples.proofs.Lists.{and_first, and_second}
 use Rattle.drawing_examples.proofs.Cutting.{are_vertices, cuts_listed, ends_listed, points, sorted, vertices_only}
+use Rattle.drawing_examples.proofs.Following.{table_fits, table_is}
 use Rattle.drawing_examples.proofs.Covering.{are_pieces, are_lines, edges_listed, edges_only, lines_match}
 
 module _ (segments : List (Segment ℤ)) (vertices : List (Point ℤ)) where
@@ -50,3 +51,6 @@ are_cut_into {segments} {vertices} {edges} {lines} h k l =
       pieces_are = are_pieces integers segments vertices all_points ends cuts only edges (and_first s (t && u) k) (and_first t u pieces) (and_second t u pieces);
       lines_are = are_lines integers segments vertices all_points edges lines l;
     }
+
+pub follow_as : {vertices : List (Point ℤ)} {edges : List Edge} {table : List (ℕ × ℕ × ℕ)} → table_fits integers vertices edges table ≡ true → FollowAs vertices edges table
+follow_as {vertices} {edges} {table} h = record { each = table_is integers vertices edges table h }

@@ -4,3 +4,4 @@ pub mod Letters
 pub mod Cutting
 pub mod Covering
 pub mod Drawings
+pub mod Following

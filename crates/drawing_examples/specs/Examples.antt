@@ -30,5 +30,5 @@ pub record AreCutInto (segments : List (Segment ℤ)) (vertices : List (Point �
   pub lines_are : AreLines integers segments vertices edges lines
 
 -- for each u, v, w of the list: after the directed piece (u, v) comes (v, w)
-abbrev pub FollowAs : List (Point ℤ) → List Edge → List (ℕ × ℕ × ℕ) → Type 0
-FollowAs vertices edges table = AllByRecursion (λ t. ComesAfter integers vertices edges t.0 t.1 t.2) table
+pub record FollowAs (vertices : List (Point ℤ)) (edges : List Edge) (table : List (ℕ × ℕ × ℕ)) : Type 0 where
+  pub each : AllByRecursion (λ t. ComesAfter integers vertices edges t.0 t.1 t.2) table

@@ -4,7 +4,7 @@
 
 ghost use Rattle.std.specs.Prelude.{pos, negsuc, [], ◌∷◌};
 ghost use Rattle.fold_base.specs.declared.letter.Letter.TheVariants.{Border, Mountain, Unassigned, Valley};
-ghost use Rattle.drawing_examples.specs.Examples.{AreCutInto, at, crease, edge, over};
+ghost use Rattle.drawing_examples.specs.Examples.{AreCutInto, FollowAs, at, crease, edge, over};
 
 /// What small drawings are cut into: their vertices in order, their pieces with the letters that are left of those that cover
 /// each, and the line of each piece.
@@ -69,4 +69,33 @@ pub fn small_drawings()
         (edge 0 1 Border ∷ edge 0 5 Border ∷ edge 1 2 Border ∷ edge 1 3 Mountain ∷ edge 2 7 Border ∷
         edge 3 4 Unassigned ∷ edge 4 6 Valley ∷ edge 5 6 Border ∷ edge 6 7 Border ∷ [])
         ((0, 2) ∷ (0, 5) ∷ (0, 2) ∷ (1, 4) ∷ (2, 7) ∷ (1, 4) ∷ (3, 6) ∷ (5, 7) ∷ (5, 7) ∷ []) }
+{}
+
+/// Which directed piece comes after which: after the one from u to v, for each u, v, w of a list, the one from v to w. Each
+/// list has all directed pieces of its drawing.
+pub fn following_pieces()
+    ensures one_neighbour { FollowAs
+        (at (pos 0) (pos 0) ∷ at (pos 1) (pos 0) ∷ [])
+        (edge 0 1 Mountain ∷ [])
+        ((0, 1, 0) ∷ (1, 0, 1) ∷ []) }
+    ensures opposite_neighbours { FollowAs
+        (at (pos 0) (pos 0) ∷ at (pos 1) (pos 0) ∷ at (pos 2) (pos 0) ∷ [])
+        (edge 0 1 Mountain ∷ edge 1 2 Valley ∷ [])
+        ((0, 1, 2) ∷ (1, 0, 1) ∷ (1, 2, 1) ∷ (2, 1, 0) ∷ []) }
+    ensures three_neighbours { FollowAs
+        (at (pos 0) (pos 0) ∷ at (pos 1) (pos 0) ∷ at (pos 1) (pos 1) ∷ at (pos 2) (pos 0) ∷ [])
+        (edge 0 1 Mountain ∷ edge 1 2 Valley ∷ edge 1 3 Mountain ∷ [])
+        ((0, 1, 2) ∷ (1, 0, 1) ∷ (1, 2, 1) ∷ (1, 3, 1) ∷ (2, 1, 3) ∷ (3, 1, 0) ∷ []) }
+    ensures four_neighbours { FollowAs
+        (at (pos 0) (pos 0) ∷ at (pos 0) (pos 2) ∷ at (pos 1) (pos 1) ∷ at (pos 2) (pos 0) ∷ at (pos 2) (pos 2) ∷
+        [])
+        (edge 0 2 Mountain ∷ edge 1 2 Valley ∷ edge 2 3 Valley ∷ edge 2 4 Mountain ∷ [])
+        ((0, 2, 1) ∷ (1, 2, 4) ∷ (2, 0, 2) ∷ (2, 1, 2) ∷ (2, 3, 2) ∷ (2, 4, 2) ∷ (3, 2, 0) ∷ (4, 2, 3) ∷ []) }
+    ensures diagonals { FollowAs
+        (at (pos 0) (pos 0) ∷ at (pos 0) (pos 1) ∷ over (pos 1) (pos 1) (pos 2) ∷ at (pos 1) (pos 0) ∷
+        at (pos 1) (pos 1) ∷ [])
+        (edge 0 1 Border ∷ edge 0 2 Mountain ∷ edge 0 3 Border ∷ edge 1 2 Valley ∷ edge 1 4 Border ∷
+        edge 2 3 Valley ∷ edge 2 4 Mountain ∷ edge 3 4 Border ∷ [])
+        ((0, 1, 4) ∷ (0, 2, 1) ∷ (0, 3, 2) ∷ (1, 0, 2) ∷ (1, 2, 4) ∷ (1, 4, 3) ∷ (2, 0, 3) ∷ (2, 1, 0) ∷
+        (2, 3, 4) ∷ (2, 4, 1) ∷ (3, 0, 1) ∷ (3, 2, 0) ∷ (3, 4, 2) ∷ (4, 1, 2) ∷ (4, 2, 3) ∷ (4, 3, 0) ∷ []) }
 {}
