@@ -5,3 +5,4 @@ pub mod Cutting
 pub mod Covering
 pub mod Drawings
 pub mod Following
+pub mod Flaws

@@ -6,6 +6,7 @@ use Rattle.algebra.proofs.Integers.{integers}
 use Rattle.plane.specs.declared.point.Point.{Point}
 use Rattle.scaled_plane.specs.declared.point.Segment.{Segment}
 use Rattle.scaled_plane.specs.declared.drawing.Edge.{Edge}
+use Rattle.scaled_plane.specs.declared.drawing.Face.{Face}
 use Rattle.scaled_plane.specs.Pieces.{AreLines, ArePieces, AreVertices}
 use Rattle.scaled_plane.specs.Walks.{ComesAfter}
 
@@ -22,6 +23,9 @@ crease letter p q = record { from = p; to = q; letter = letter }
 
 abbrev pub edge : ℕ → ℕ → Letter → Edge
 edge u v letter = record { from = u; to = v; letter = letter }
+
+abbrev pub face : List ℕ → Face
+face corners = record { corners = corners }
 
 -- the segments have these vertices, these pieces with their letters, and these lines of the pieces
 pub record AreCutInto (segments : List (Segment ℤ)) (vertices : List (Point ℤ)) (edges : List Edge) (lines : List (ℕ × ℕ)) : Type 0 where

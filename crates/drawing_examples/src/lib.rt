@@ -4,7 +4,10 @@
 
 ghost use Rattle.std.specs.Prelude.{pos, negsuc, [], ◌∷◌};
 ghost use Rattle.fold_base.specs.declared.letter.Letter.TheVariants.{Border, Mountain, Unassigned, Valley};
-ghost use Rattle.drawing_examples.specs.Examples.{AreCutInto, FollowAs, at, crease, edge, over};
+ghost use Rattle.algebra.proofs.Integers.{integers};
+ghost use Rattle.scaled_plane.specs.Sheets.{HasFlaw};
+ghost use Rattle.scaled_plane.specs.declared.sheet.SheetFlaw.TheVariants.{SameVertex, Loose, NotPlane, Parted, EmptySheet, FaceWrong, NotConvex, BorderWrong, Severed};
+ghost use Rattle.drawing_examples.specs.Examples.{AreCutInto, FollowAs, at, crease, edge, face, over};
 
 /// What small drawings are cut into: their vertices in order, their pieces with the letters that are left of those that cover
 /// each, and the line of each piece.
@@ -98,4 +101,29 @@ pub fn following_pieces()
         edge 2 3 Valley ∷ edge 2 4 Mountain ∷ edge 3 4 Border ∷ [])
         ((0, 1, 4) ∷ (0, 2, 1) ∷ (0, 3, 2) ∷ (1, 0, 2) ∷ (1, 2, 4) ∷ (1, 4, 3) ∷ (2, 0, 3) ∷ (2, 1, 0) ∷
         (2, 3, 4) ∷ (2, 4, 1) ∷ (3, 0, 1) ∷ (3, 2, 0) ∷ (3, 4, 2) ∷ (4, 1, 2) ∷ (4, 2, 3) ∷ (4, 3, 0) ∷ []) }
+{}
+
+/// What keeps vertices, edges and faces from being a sheet, at one example for each line of the table that speaks of no walk.
+pub fn sheet_flaws()
+    ensures same_vertex { HasFlaw integers (at (pos 0) (pos 0) ∷ at (pos 1) (pos 0) ∷ over (pos 0) (pos 0) (pos 2) ∷ []) [] []
+        (SameVertex 0 2) }
+    ensures loose { HasFlaw integers (at (pos 0) (pos 0) ∷ at (pos 1) (pos 0) ∷ at (pos 2) (pos 0) ∷ [])
+        (edge 0 1 Mountain ∷ []) [] (Loose 2) }
+    ensures edges_cross { HasFlaw integers
+        (at (pos 0) (pos 0) ∷ at (pos 0) (pos 2) ∷ at (pos 2) (pos 0) ∷ at (pos 2) (pos 2) ∷ [])
+        (edge 0 3 Mountain ∷ edge 1 2 Valley ∷ []) [] (NotPlane 0 1) }
+    ensures edge_ends_alike { HasFlaw integers (at (pos 0) (pos 0) ∷ []) (edge 0 0 Mountain ∷ []) [] (NotPlane 0 0) }
+    ensures parted { HasFlaw integers
+        (at (pos 0) (pos 0) ∷ at (pos 1) (pos 0) ∷ at (pos 0) (pos 1) ∷ at (pos 1) (pos 1) ∷ [])
+        (edge 0 1 Border ∷ edge 2 3 Border ∷ []) [] (Parted 2) }
+    ensures empty_sheet { HasFlaw integers [] [] [] EmptySheet }
+    ensures face_twice { HasFlaw integers [] [] (face (0 ∷ 1 ∷ 2 ∷ []) ∷ face (1 ∷ 2 ∷ 0 ∷ []) ∷ []) (FaceWrong 1) }
+    ensures turns_back { HasFlaw integers (at (pos 0) (pos 0) ∷ at (pos 1) (pos 0) ∷ []) (edge 0 1 Border ∷ [])
+        (face (0 ∷ 1 ∷ []) ∷ []) (NotConvex 0 0) }
+    ensures bent_inwards { HasFlaw integers
+        (at (pos 0) (pos 0) ∷ at (pos 2) (pos 0) ∷ at (pos 1) (pos 1) ∷ at (pos 2) (pos 2) ∷ [])
+        [] (face (2 ∷ 3 ∷ 0 ∷ 1 ∷ []) ∷ []) (NotConvex 0 2) }
+    ensures border_without_face { HasFlaw integers (at (pos 0) (pos 0) ∷ at (pos 1) (pos 0) ∷ []) (edge 0 1 Border ∷ []) []
+        (BorderWrong 0) }
+    ensures severed { HasFlaw integers [] [] (face (0 ∷ 1 ∷ 2 ∷ []) ∷ face (2 ∷ 1 ∷ 3 ∷ []) ∷ []) (Severed 1) }
 {}
