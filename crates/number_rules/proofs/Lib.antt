@@ -1,0 +1,6 @@
+mod Digits
+mod Cuts
+mod Rounding
+mod Steps
+mod Places
+mod Exponents
