@@ -62,9 +62,8 @@ fn signs(count: u32) -> i128 {
             state = next(state);
             (state >> 4) as i128 - (1 << 59)
         };
-        let number = RootTwoRing {
-            a: part(),
-            b: part(),
+        let Some(number) = RootTwoRing::from_pair(part(), part()) else {
+            return 0;
         };
         sum = sum.wrapping_mul(31).wrapping_add(code_of(number.sign()));
     }

@@ -1,4 +1,4 @@
--- The steps of the descent: when a pair settles, and how it turns.
+-- The steps of the descent for √2: when a pair settles, and how it turns.
 use Prim.Native.Nat.{ℕ, zero, suc, ◌+◌, ◌*◌, ◌-◌, ◌<◌, ◌≤◌, ◌^◌}
 use mathlib.Core.Bool.{Bool, true, false, not}
 use mathlib.Core.List.{[], ◌∷◌}
@@ -18,7 +18,7 @@ use Rattle.algebra.proofs.IntegerOrder.{in_greater}
 use Rattle.algebra.proofs.Solvers.{reads_integers, ring, sign_from_multiple, known, no_sign, positive, negative, not_negative, given, number, negated, sum, product, square, sign_neg}
 use Rattle.root_two.specs.Descent.{against_root, IsTurned}
 
-not_below_zero : (n : ℕ) → IsTrue (is_ge (int_sign (pos n)))
+pub not_below_zero : (n : ℕ) → IsTrue (is_ge (int_sign (pos n)))
 not_below_zero zero = refl
 not_below_zero (suc n) = refl
 

@@ -1,11 +1,14 @@
 -- What a chain of checked operations gives, from what each of them gives.
 use mathlib.Core.List.{List, [], ◌∷◌, ◌++◌}
-use mathlib.Core.Path.{◌≡◌, sym, subst, ◌∙◌}
+use mathlib.Core.Path.{◌≡◌, refl, sym, subst, ◌∙◌}
+use Prim.Native.Nat.{ℕ, zero, suc}
 use lib.IntN.{ℤ}
 use Rattle.std.specs.Prelude.{Result, Ok, Err, Option, Some, None, IsSome, FitsSigned}
 use Rattle.std.specs.Int.{w128}
 use Rattle.std.specs.Result.{OkIff}
-use Rattle.exact_number.specs.WideForms.{AllFit}
+use Rattle.exact_number.specs.WideForms.{AllFit, by_root}
+use Rattle.root_two.specs.declared.radicand.Radicand.{Ghosts}
+use Rattle.root_two.specs.Roots.{not_one}
 
 pub fit_together : (ns ms : List ℤ) → AllFit ns → AllFit ms → AllFit (ns ++ ms)
 fit_together [] ms h k = k
@@ -31,3 +34,16 @@ three_then h k = (h.0, (h.1.0, (h.1.1.0, k)))
 
 pub four_then : {A B C D R : Type 0} → A × (B × (C × (D × Unit {0}))) → R → A × (B × (C × (D × R)))
 four_then h k = (h.0, three_then h.1 k)
+
+-- wide forms over √k are those of roots
+by_root_is : (k : ℕ) (rational root : List ℤ) → ¬ (k ≡ 1) → by_root k rational root ≡ root
+by_root_is zero rational root h = refl
+by_root_is (suc zero) rational root h = absurd (h refl)
+by_root_is (suc (suc k)) rational root h = refl
+
+module _ {R : Type 0} (radicand : Ghosts R) (rational root : List ℤ) where
+  pub from_wide : AllFit (by_root radicand.K rational root) → AllFit root
+  from_wide h = subst AllFit (by_root_is radicand.K rational root (not_one radicand)) h
+
+  pub to_wide : AllFit root → AllFit (by_root radicand.K rational root)
+  to_wide h = subst AllFit (sym (by_root_is radicand.K rational root (not_one radicand))) h

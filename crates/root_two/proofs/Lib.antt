@@ -1,4 +1,5 @@
 pub mod Descents
+pub mod DescentsOfThree
 pub mod Signs
 pub mod Forms
 pub mod Numbers

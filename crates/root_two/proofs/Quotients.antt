@@ -1,7 +1,7 @@
--- Quotients over √2: the product with the conjugate over the norm, whose sign is moved up.
+-- Quotients over √k: the product with the conjugate over the norm, whose sign is moved up.
 use Rattle.std.proofs.Common.{◌≡◌, refl, ◌∙◌, sym, ap, subst, arith, ℤ, pos, negsuc, neg_ℤ, ◌<ℤ◌, ◌≤ℤ◌, List, [], ◌∷◌}
 use borrow.Author.Differences.{ints}
-use Prim.Native.Nat.{zero, suc}
+use Prim.Native.Nat.{ℕ, zero, suc}
 use Rattle.std.specs.declared.cmp.Ordering.{Ordering}
 use Rattle.std.specs.declared.cmp.Ordering.TheVariants.{Less, Equal, Greater}
 use Rattle.algebra.specs.Order.{int_sign, product_sign}
@@ -25,40 +25,40 @@ only_below p Less e h k = refl
 only_below p Equal e h k = absurd (omega (arith, ints))
 only_below p Greater e h k = absurd (omega (arith, ints))
 
-module _ (x y : Parts) (positive : pos 0 <ℤ x.q) where
+module _ (k : ℕ) (x y : Parts) (positive : pos 0 <ℤ x.q) where
   abbrev pub fraction : Parts
-  fraction = by_conjugate 2 x y
+  fraction = by_conjugate k x y
 
   abbrev pub negations : List ℤ
   negations = neg_ℤ fraction.a ∷ (neg_ℤ fraction.b ∷ (neg_ℤ fraction.q ∷ []))
 
-  sign_of_denominator : int_sign fraction.q ≡ int_sign (norm 2 y)
-  sign_of_denominator = integers.sign_mul x.q (norm 2 y) ∙ ap (λ s. product_sign s (int_sign (norm 2 y))) (greater_of_positive x.q positive)
+  sign_of_denominator : int_sign fraction.q ≡ int_sign (norm k y)
+  sign_of_denominator = integers.sign_mul x.q (norm k y) ∙ ap (λ s. product_sign s (int_sign (norm k y))) (greater_of_positive x.q positive)
 
   module _ (above : pos 0 <ℤ fraction.q) where
-    pub upright_above : quotient 2 x y ≡ fraction
+    pub upright_above : quotient k x y ≡ fraction
     upright_above = ap (λ s. upright_at s fraction) (greater_of_positive fraction.q above)
 
-    pub fit_above : AllFit (over_norm_form x y) → AllFit (root_quotient 2 x y)
+    pub fit_above : AllFit (over_norm_form k x y) → AllFit (root_quotient k x y)
     fit_above h =
-        let norm_above : pos 0 <ℤ norm 2 y = positive_of_greater (norm 2 y) (sym sign_of_denominator ∙ greater_of_positive fraction.q above) in
-        fit_together (over_norm_form x y) (where_below_zero (norm 2 y) negations) h (none_from_zero (norm 2 y) negations (omega (arith, ints)))
+        let norm_above : pos 0 <ℤ norm k y = positive_of_greater (norm k y) (sym sign_of_denominator ∙ greater_of_positive fraction.q above) in
+        fit_together (over_norm_form k x y) (where_below_zero (norm k y) negations) h (none_from_zero (norm k y) negations (omega (arith, ints)))
 
-  module _ (below : fraction.q ≤ℤ pos 0) (divisor : ¬ (parts_sign 2 y ≡ Equal)) where
+  module _ (below : fraction.q ≤ℤ pos 0) (divisor : ¬ (parts_sign k y ≡ Equal)) where
     is_below : int_sign fraction.q ≡ Less
-    is_below = only_below fraction (int_sign fraction.q) refl (quotient_positive 2 x y positive divisor) below
+    is_below = only_below fraction (int_sign fraction.q) refl (quotient_positive k x y positive divisor) below
 
-    norm_below : norm 2 y <ℤ pos 0
-    norm_below = below_zero (norm 2 y) (sym sign_of_denominator ∙ is_below)
+    norm_below : norm k y <ℤ pos 0
+    norm_below = below_zero (norm k y) (sym sign_of_denominator ∙ is_below)
 
-    pub upright_below : quotient 2 x y ≡ negated fraction
+    pub upright_below : quotient k x y ≡ negated fraction
     upright_below = ap (λ s. upright_at s fraction) is_below
 
     pub negated_positive : pos 0 <ℤ neg_ℤ fraction.q
-    negated_positive = subst (λ (p : Parts). pos 0 <ℤ p.q) upright_below (quotient_positive 2 x y positive divisor)
+    negated_positive = subst (λ (p : Parts). pos 0 <ℤ p.q) upright_below (quotient_positive k x y positive divisor)
 
-    pub fit_below : AllFit (over_norm_form x y) → AllFit negations → AllFit (root_quotient 2 x y)
-    fit_below h k = fit_together (over_norm_form x y) (where_below_zero (norm 2 y) negations) h (fit_below_zero (norm 2 y) negations norm_below k)
+    pub fit_below : AllFit (over_norm_form k x y) → AllFit negations → AllFit (root_quotient k x y)
+    fit_below h j = fit_together (over_norm_form k x y) (where_below_zero (norm k y) negations) h (fit_below_zero (norm k y) negations norm_below j)
 
-    pub negations_fit : AllFit (root_quotient 2 x y) → AllFit negations
-    negations_fit h = formed_below_zero (norm 2 y) negations norm_below (later_fit (over_norm_form x y) (where_below_zero (norm 2 y) negations) h)
+    pub negations_fit : AllFit (root_quotient k x y) → AllFit negations
+    negations_fit h = formed_below_zero (norm k y) negations norm_below (later_fit (over_norm_form k x y) (where_below_zero (norm k y) negations) h)

@@ -1,5 +1,5 @@
 -- The sign of a + b√k by the signs of its parts, as far as they decide it.
-use mathlib.Core.Path.{◌≡◌, refl, ap, subst, ◌∙◌}
+use mathlib.Core.Path.{◌≡◌, refl, sym, ap, subst, ◌∙◌}
 use mathlib.Core.Logic.{◌⊎◌, inl, inr}
 use Prim.Native.Nat.{ℕ, zero, suc}
 use native.Mathlib.Omega.{arith}
@@ -29,6 +29,11 @@ same_or_zero Less s t h (inr e) = absurd (h e)
 same_or_zero Equal s t h e = absurd (h refl)
 same_or_zero Greater s t h e = refl
 
+second_of_zero : (norm s t : Ordering) → s ≡ Equal → (by_norm norm s t ≡ Equal → t ≡ Equal) → by_norm norm s t ≡ t
+second_of_zero Less s t e h = refl
+second_of_zero Equal s t e h = sym (h refl)
+second_of_zero Greater s t e h = e ∙ sym (h e)
+
 from_zero : (n : ℕ) → lt_z (pos n) (pos 0) ≡ false
 from_zero n = grind (arith, ints)
 
@@ -54,3 +59,7 @@ module _ (k : ℕ) (nonsquare : IsNonsquare k) (a b : ℤ) where
   -- b is on the side of a, or zero
   pub sign_of_first : ¬ (int_sign a ≡ Equal) → (int_sign b ≡ int_sign a) ⊎ (int_sign b ≡ Equal) → sign ≡ int_sign a
   sign_of_first h = same_or_zero (int_sign (surd_norm int_ops (pos k) x)) (int_sign a) (int_sign b) (λ z. h (ap (λ (y : Surd ℤ). int_sign y.a) (only_zero z)))
+
+  -- a is zero
+  pub sign_of_second : int_sign a ≡ Equal → sign ≡ int_sign b
+  sign_of_second h = second_of_zero (int_sign (surd_norm int_ops (pos k) x)) (int_sign a) (int_sign b) h (λ z. ap (λ (y : Surd ℤ). int_sign y.b) (only_zero z))

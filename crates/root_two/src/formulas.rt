@@ -1,7 +1,8 @@
-ghost use Rattle.std.specs.Prelude.{◌≡◌, ◌+ℤ◌, ◌-ℤ◌, ◌*ℤ◌, List, [], ◌∷◌, IfErr};
+ghost use Rattle.std.specs.Prelude.{◌≡◌, pos, ◌+ℤ◌, ◌-ℤ◌, ◌*ℤ◌, List, [], ◌∷◌, IfErr};
 ghost use Rattle.std.specs.Result.{OkIff};
 ghost use Rattle.exact_number.specs.WideForms.{AllFit};
 
+use crate::radicand::{Radicand, square};
 use exact_number::{Op, Overflow};
 
 /// a·d + b·c.
@@ -25,32 +26,37 @@ pub fn cross_difference(op: Op, a: i128, d: i128, b: i128, c: i128) -> Result<i1
 }
 
 /// a·c + k·(b·d), the rational part of (a+b√k)(c+d√k).
-pub fn rational_sum(op: Op, k: i128, a: i128, c: i128, b: i128, d: i128) -> Result<i128, Overflow>
-    ensures answer { OkIff result (AllFit ((a *ℤ c) ∷ (b *ℤ d) ∷ (k *ℤ (b *ℤ d)) ∷ (a *ℤ c +ℤ k *ℤ (b *ℤ d)) ∷ []))
-        (a *ℤ c +ℤ k *ℤ (b *ℤ d)) }
-    ensures overflow { IfErr result (λ e. e.op ≡ op) }
-{
-    let rational = op.product(a, c)?;
-    let irrational = op.product(b, d)?;
-    let squared = op.product(k, irrational)?;
-    op.sum(rational, squared)
-}
-
-/// a·c - k·(b·d), the rational part of (a+b√k)(c-d√k).
-pub fn rational_difference(
+pub fn rational_sum<R: Radicand>(
     op: Op,
-    k: i128,
     a: i128,
     c: i128,
     b: i128,
     d: i128,
 ) -> Result<i128, Overflow>
-    ensures answer { OkIff result (AllFit ((a *ℤ c) ∷ (b *ℤ d) ∷ (k *ℤ (b *ℤ d)) ∷ (a *ℤ c -ℤ k *ℤ (b *ℤ d)) ∷ []))
-        (a *ℤ c -ℤ k *ℤ (b *ℤ d)) }
+    ensures answer { OkIff result (AllFit ((a *ℤ c) ∷ (b *ℤ d) ∷ (pos R.K *ℤ (b *ℤ d)) ∷ (a *ℤ c +ℤ pos R.K *ℤ (b *ℤ d)) ∷ []))
+        (a *ℤ c +ℤ pos R.K *ℤ (b *ℤ d)) }
     ensures overflow { IfErr result (λ e. e.op ≡ op) }
 {
     let rational = op.product(a, c)?;
     let irrational = op.product(b, d)?;
-    let squared = op.product(k, irrational)?;
+    let squared = op.product(square::<R>(), irrational)?;
+    op.sum(rational, squared)
+}
+
+/// a·c - k·(b·d), the rational part of (a+b√k)(c-d√k).
+pub fn rational_difference<R: Radicand>(
+    op: Op,
+    a: i128,
+    c: i128,
+    b: i128,
+    d: i128,
+) -> Result<i128, Overflow>
+    ensures answer { OkIff result (AllFit ((a *ℤ c) ∷ (b *ℤ d) ∷ (pos R.K *ℤ (b *ℤ d)) ∷ (a *ℤ c -ℤ pos R.K *ℤ (b *ℤ d)) ∷ []))
+        (a *ℤ c -ℤ pos R.K *ℤ (b *ℤ d)) }
+    ensures overflow { IfErr result (λ e. e.op ≡ op) }
+{
+    let rational = op.product(a, c)?;
+    let irrational = op.product(b, d)?;
+    let squared = op.product(square::<R>(), irrational)?;
     op.difference(rational, squared)
 }

@@ -1,100 +1,113 @@
 ghost use Rattle.algebra.specs.LowestTerms.{IsNumber};
 
-use crate::descent::{Two, sign_of};
+use crate::descent::sign_of;
 use crate::formulas::{cross_difference, cross_sum, rational_difference, rational_sum};
-use crate::whole::RootTwoRing;
+use crate::radicand::{Radicand, Three, Two};
+use crate::whole::RootRing;
 use exact_number::{Exact, Op, Overflow, lowest_terms, scaled_part};
+use std::alloc::AllocError;
 use std::cmp::Ordering;
+use std::marker::PhantomData;
 
-/// (a+b√2)/q in lowest terms, with q above zero.
-#[derive(Clone, Copy, PartialEq, Eq, Debug)]
-pub struct RootTwo {
+/// (a+b√K)/q in lowest terms, with q above zero.
+#[derive(Copy, PartialEq, Eq, Debug)]
+pub struct Root<R: Radicand> {
     pub a: i128,
     pub b: i128,
     pub q: i128,
-    pub ghost lowest: { IsNumber 2 (record { a = a; b = b; q = q }) },
+    of: PhantomData<R>,
+    pub ghost lowest: { IsNumber R.K (record { a = a; b = b; q = q }) },
 }
 
-impl Exact for RootTwo {
+pub type RootTwo = Root<Two>;
+
+pub type RootThree = Root<Three>;
+
+impl<R: Radicand> Clone for Root<R> {
+    fn clone(&self) -> Result<Root<R>, AllocError> {
+        Ok(*self)
+    }
+}
+
+impl<R: Radicand> Exact for Root<R> {
     ghost use Rattle.std.specs.Prelude.{refl};
-    ghost use Rattle.std.proofs.Common.{arith, inr};
-    ghost use Rattle.algebra.proofs.Surds.{two_nonsquare};
-    ghost use Rattle.root_two.specs.Roots.{root_parts, root_holds, root_numbers};
+    ghost use Rattle.std.proofs.Common.{inr};
+    ghost use Rattle.root_two.specs.Roots.{nonsquare, at_most_three, root_parts, root_holds, root_numbers};
 
-    const ROOT: u32 = 2;
+    const ROOT: u32 = R::K;
 
-    type Ring = RootTwoRing;
+    type Ring = RootRing<R>;
 
-    ghost ROOT = { 2 };
+    ghost ROOT = { R.K };
 
     ghost parts = { root_parts };
 
-    ghost numbers = { root_numbers };
+    ghost numbers = { root_numbers R.Radicand };
 
-    fn from_parts(a: i128, b: i128, q: i128) -> Option<RootTwo> {
-        Some(RootTwo::reduced(a, b, q))
+    fn from_parts(a: i128, b: i128, q: i128) -> Option<Root<R>> {
+        Some(Root::reduced(a, b, q))
     }
 
     fn parts(self) -> (i128, i128, i128) {
         (self.a, self.b, self.q)
     }
 
-    fn add(self, other: RootTwo) -> Result<RootTwo, Overflow> {
+    fn add(self, other: Root<R>) -> Result<Root<R>, Overflow> {
         let op = Op::Add;
         let a = cross_sum(op, self.a, other.q, other.a, self.q)?;
         let b = cross_sum(op, self.b, other.q, other.b, self.q)?;
         let q = op.product(self.q, other.q)?;
-        Ok(RootTwo::reduced(a, b, q))
+        Ok(Root::reduced(a, b, q))
     }
 
-    fn sub(self, other: RootTwo) -> Result<RootTwo, Overflow> {
+    fn sub(self, other: Root<R>) -> Result<Root<R>, Overflow> {
         let (a, b, q) = self.difference(other, Op::Sub)?;
-        Ok(RootTwo::reduced(a, b, q))
+        Ok(Root::reduced(a, b, q))
     }
 
-    fn mul(self, other: RootTwo) -> Result<RootTwo, Overflow> {
+    fn mul(self, other: Root<R>) -> Result<Root<R>, Overflow> {
         let op = Op::Mul;
-        let a = rational_sum(op, Two::SQUARE, self.a, other.a, self.b, other.b)?;
+        let a = rational_sum::<R>(op, self.a, other.a, self.b, other.b)?;
         let b = cross_sum(op, self.a, other.b, other.a, self.b)?;
         let q = op.product(self.q, other.q)?;
-        Ok(RootTwo::reduced(a, b, q))
+        Ok(Root::reduced(a, b, q))
     }
 
-    fn div(self, other: RootTwo) -> Result<RootTwo, Overflow> {
+    fn div(self, other: Root<R>) -> Result<Root<R>, Overflow> {
         let (a, b, q) = self.over_norm(other)?;
         if q > 0 {
-            Ok(RootTwo::reduced(a, b, q))
+            Ok(Root::reduced(a, b, q))
         } else {
             let op = Op::Div;
-            Ok(RootTwo::reduced(op.negation(a)?, op.negation(b)?, op.negation(q)?))
+            Ok(Root::reduced(op.negation(a)?, op.negation(b)?, op.negation(q)?))
         }
     }
 
-    fn compare(self, other: RootTwo) -> Result<Ordering, Overflow> {
+    fn compare(self, other: Root<R>) -> Result<Ordering, Overflow> {
         let (a, b, _) = self.difference(other, Op::Compare)?;
-        Ok(sign_of::<Two>(a, b))
+        Ok(sign_of::<R>(a, b))
     }
 
     fn sign(self) -> Ordering {
-        sign_of::<Two>(self.a, self.b)
+        sign_of::<R>(self.a, self.b)
     }
 
-    fn scale(self, common: i128) -> Option<RootTwoRing> {
+    fn scale(self, common: i128) -> Option<RootRing<R>> {
         let a = scaled_part(self.a, self.q, common)?;
         let b = scaled_part(self.b, self.q, common)?;
-        Some(RootTwoRing { a, b })
+        Some(RootRing::new(a, b))
     }
 
-    ghost holds = { root_holds };
+    ghost holds = { root_holds R.Radicand };
 
-    ghost radicand = { inr two_nonsquare };
+    ghost radicand = { inr (nonsquare R.Radicand) };
 
-    ghost at_most_three = { Prim.omega arith };
+    ghost at_most_three = { at_most_three R.Radicand };
 
     ghost same_root = { refl };
 }
 
-impl RootTwo {
+impl<R: Radicand> Root<R> {
     ghost use Rattle.std.specs.Prelude.{◌≡◌, pos, ◌<ℤ◌, IfErr};
     ghost use Rattle.std.specs.Result.{OkIff};
     ghost use Rattle.algebra.specs.LowestTerms.{IsReduced, Parts};
@@ -104,17 +117,22 @@ impl RootTwo {
     ghost use Rattle.root_two.specs.Roots.{root_parts};
     ghost use Rattle.root_two.specs.Quotients.{over_norm_form};
 
-    /// (a+b√2)/q brought to lowest terms.
-    fn reduced(a: i128, b: i128, q: i128) -> RootTwo
+    /// (a+b√K)/q brought to lowest terms.
+    fn reduced(a: i128, b: i128, q: i128) -> Root<R>
         requires { pos 0 <ℤ q }
         ensures { IsReduced (record { a = a; b = b; q = q }) (root_parts result) }
     {
         let (a, b, q) = lowest_terms(a, b, q);
-        RootTwo { a, b, q }
+        Root {
+            a,
+            b,
+            q,
+            of: PhantomData,
+        }
     }
 
     /// The three whole numbers of a difference, before lowest terms.
-    fn difference(self, other: RootTwo, op: Op) -> Result<(i128, i128, i128), Overflow>
+    fn difference(self, other: Root<R>, op: Op) -> Result<(i128, i128, i128), Overflow>
         ensures answer { let formula = difference (root_parts self) (root_parts other) in
             OkIff result (AllFit (root_difference (root_parts self) (root_parts other)))
             (record { 0 = formula.a; 1 = formula.b; 2 = formula.q }) }
@@ -127,15 +145,15 @@ impl RootTwo {
     }
 
     /// The three whole numbers of a quotient, by the conjugate of `other`: its norm may leave the last one below zero.
-    fn over_norm(self, other: RootTwo) -> Result<(i128, i128, i128), Overflow>
-        ensures answer { let formula = by_conjugate 2 (root_parts self) (root_parts other) in
-            OkIff result (AllFit (over_norm_form (root_parts self) (root_parts other)))
+    fn over_norm(self, other: Root<R>) -> Result<(i128, i128, i128), Overflow>
+        ensures answer { let formula = by_conjugate R.K (root_parts self) (root_parts other) in
+            OkIff result (AllFit (over_norm_form R.K (root_parts self) (root_parts other)))
             (record { 0 = formula.a; 1 = formula.b; 2 = formula.q }) }
         ensures overflow { IfErr result (λ e. e.op ≡ Div) }
     {
         let op = Op::Div;
-        let norm = rational_difference(op, Two::SQUARE, other.a, other.a, other.b, other.b)?;
-        let a = rational_difference(op, Two::SQUARE, self.a, other.a, self.b, other.b)?;
+        let norm = rational_difference::<R>(op, other.a, other.a, other.b, other.b)?;
+        let a = rational_difference::<R>(op, self.a, other.a, self.b, other.b)?;
         let b = cross_difference(op, self.b, other.a, self.a, other.b)?;
         Ok((
             op.product(a, other.q)?,

@@ -1,7 +1,8 @@
 ghost use Rattle.std.specs.Prelude.{pos, ◌<ℤ◌};
 
 use super::*;
-use exact_number::midpoint;
+use crate::whole::RootTwoRing;
+use exact_number::{Whole, midpoint};
 use std::process::Abort;
 
 const HALF: i128 = 1 << 126;
@@ -10,6 +11,12 @@ fn number(rt: &impl Abort, a: i128, b: i128, q: i128) -> RootTwo
     requires { pos 0 <ℤ q }
 {
     RootTwo::from_parts(a, b, q).expect(rt, "any three parts are a number")
+}
+
+fn number_over_three(rt: &impl Abort, a: i128, b: i128, q: i128) -> RootThree
+    requires { pos 0 <ℤ q }
+{
+    RootThree::from_parts(a, b, q).expect(rt, "any three parts are a number")
 }
 
 fn quotient(rt: &impl Abort, x: RootTwo, y: RootTwo) -> Result<RootTwo, Overflow> {
@@ -27,7 +34,7 @@ fn operations(rt: HostRuntime) {
     assert_eq!(rt; x.mul(y), Ok(number(&rt, -3, 1, 18)));
     assert_eq!(rt; midpoint(x, y), Ok(number(&rt, 1, 1, 4)));
     assert_eq!(rt; x.compare(y), Ok(Ordering::Greater));
-    assert_eq!(rt; x.scale(6), Some(RootTwoRing { a: 2, b: 4 }));
+    assert_eq!(rt; x.scale(6), Some(RootTwoRing::new(2, 4)));
     assert_eq!(rt; x.scale(4), None);
 
     let one = number(&rt, 1, 0, 1);
@@ -66,7 +73,19 @@ fn limits(rt: HostRuntime) {
 
     assert_eq!(rt;
         number(&rt, 0, 1 << 21, 1).scale(2),
-        Some(RootTwoRing { a: 0, b: 1 << 22 })
+        Some(RootTwoRing::new(0, 1 << 22))
     );
     assert_eq!(rt; number(&rt, 0, (1 << 22) + 1, 1).scale(1), None);
+}
+
+#[test]
+fn over_the_root_of_three(rt: HostRuntime) {
+    let x = number_over_three(&rt, 1, 1, 1);
+    let y = number_over_three(&rt, 2, -1, 3);
+    assert_eq!(rt; x.add(y), Ok(number_over_three(&rt, 5, 2, 3)));
+    assert_eq!(rt; x.mul(y), Ok(number_over_three(&rt, -1, 1, 3)));
+    assert_eq!(rt; x.compare(y), Ok(Ordering::Greater));
+    assert_ne!(rt; x.sign(), Ordering::Equal);
+    assert_eq!(rt; y.div(x), Ok(number_over_three(&rt, -5, 3, 6)));
+    assert_eq!(rt; x.scale(2).map(|whole| whole.pair()), Some((2, 2)));
 }

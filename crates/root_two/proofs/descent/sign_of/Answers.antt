@@ -5,9 +5,15 @@ use Rattle.std.specs.declared.cmp.Ordering.TheVariants.{Equal}
 use Rattle.std.proofs.lemmas.Int.{to_z-of_z}
 use Rattle.algebra.specs.Order.{int_sign}
 use Rattle.algebra.proofs.Integers.{integers}
-use Rattle.root_two.proofs.Signs.{compared_sign, same_side, sign_of_first}
+use Rattle.root_two.specs.Roots.{nonsquare}
+use Rattle.root_two.proofs.Signs.{compared_sign, same_side, sign_of_first, sign_of_second}
 use Rattle.root_two.proofs.descent.sign_of.Goals as goal
 use Rattle.root_two.proofs.descent.sign_of.Goals.{then-b-eq0-via-then-b-eq0, then-b-eq0-via-else-b-eq0+then-a-b}
+
+pub returns-then-a-eq0 : goal.returns-then-a-eq0
+returns-then-a-eq0 g c =
+    let zero_a : c.args.a ≡ pos 0 = omega (arith, ints) in
+    c.cmp.ensures ∙ compared_sign c.args.b c.ranges.b ∙ sym (sign_of_second g.R.Radicand.K (nonsquare g.R.Radicand) c.args.a c.args.b (ap int_sign zero_a))
 
 pub returns-then-b-eq0 : goal.returns-then-b-eq0
 returns-then-b-eq0 g c =
@@ -20,4 +26,4 @@ returns-then-b-eq0 g c =
           (rw (to_z-of_z w128 c.args.a c.ranges.a, to_z-of_z w128 c.args.b c.ranges.b) at w.if-a-b.true))
     ] in
     c.cmp-then-b-eq0.ensures ∙ compared_sign c.args.a c.ranges.a
-    ∙ sym (sign_of_first g.R.Root.k g.met.R.Root.nonsquare c.args.a c.args.b (λ e. not_zero_a (integers.sign_zero c.args.a e)) either)
+    ∙ sym (sign_of_first g.R.Radicand.K (nonsquare g.R.Radicand) c.args.a c.args.b (λ e. not_zero_a (integers.sign_zero c.args.a e)) either)
