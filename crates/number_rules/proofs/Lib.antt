@@ -4,3 +4,4 @@ mod Rounding
 mod Steps
 mod Places
 mod Exponents
+mod Nearest

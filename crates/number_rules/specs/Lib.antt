@@ -1,3 +1,5 @@
 pub mod Value
 pub mod Rounded
 pub mod Cut
+pub mod Rows
+pub mod Kept
