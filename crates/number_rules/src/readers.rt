@@ -67,3 +67,57 @@ fn nearest_multiple(n: u32, near: i128) -> i128
 {
     (i128::from(n) * near + ONE / 2).div_euclid(ONE)
 }
+
+#[cfg(test)]
+mod tests {
+    use super::*;
+    use rational::Rational;
+
+    fn decimal(near: i128, exact: bool) -> Decimal {
+        Decimal {
+            far: false,
+            near,
+            exact,
+        }
+    }
+
+    #[test]
+    fn exact_and_grid(rt: HostRuntime) {
+        let far = Decimal {
+            far: true,
+            near: 0,
+            exact: false,
+        };
+        for (value, number) in [
+            (far, Err(Unread::Far)),
+            (decimal(ONE / 2, false), Err(Unread::Fine)),
+            (decimal(-ONE / 4, true), Ok((-1, 0, 4))),
+            (decimal((1 << 62) * ONE, true), Ok((1 << 62, 0, 1))),
+            // half of a numerator that is larger than 2^62
+            (decimal((1 << 62) * ONE - ONE / 2, true), Err(Unread::Far)),
+        ] {
+            let read = read_exact::<Rational>(value);
+            assert_eq!(rt; read.map(|x| x.parts()), number);
+        }
+        for (n, value, number) in [
+            (1, far, Err(Unread::Far)),
+            (1, decimal(3 * ONE / 2, true), Ok((2, 0, 1))),
+            (1, decimal(-3 * ONE / 2, false), Ok((-1, 0, 1))),
+            (
+                1000,
+                decimal(3335 * (ONE / 10_000), true),
+                Ok((167, 0, 500)),
+            ),
+            (
+                1_000_000,
+                decimal((1 << 30) * ONE, true),
+                Ok((1 << 30, 0, 1)),
+            ),
+            (1, decimal((1 << 30) * ONE + 1, true), Err(Unread::Far)),
+        ] {
+            assert!(rt; 0 < n && n <= 1_000_000);
+            let read = read_grid::<Rational>(n, value);
+            assert_eq!(rt; read.map(|x| x.parts()), number);
+        }
+    }
+}

@@ -65,7 +65,10 @@ pub fn exact_rule<N: ExactNumber, F: Fn(Decimal) -> Result<N, Unread>>(call: F) 
 }
 
 /// The rule `grid:n`, by a function that reads by it.
-pub fn grid_rule<N: ExactNumber, F: Fn(Decimal) -> Result<N, Unread>>(n: u32, call: F) -> NumberRule<N, F>
+pub fn grid_rule<N: ExactNumber, F: Fn(Decimal) -> Result<N, Unread>>(
+    n: u32,
+    call: F,
+) -> NumberRule<N, F>
     requires range { (0 < n) × (n ≤ 1000000) }
     requires keeps { KeepsItsRow N.ROOT N.parts (Grid n) (F.pre call) (F.post call) }
     ensures row { result.row ≡ Grid n }
@@ -80,7 +83,10 @@ pub fn grid_rule<N: ExactNumber, F: Fn(Decimal) -> Result<N, Unread>>(n: u32, ca
 }
 
 /// The rule `root2:n`, by a function that reads by it.
-pub fn root_two_rule<F: Fn(Decimal) -> Result<RootTwo, Unread>>(n: u32, call: F) -> NumberRule<RootTwo, F>
+pub fn root_two_rule<F: Fn(Decimal) -> Result<RootTwo, Unread>>(
+    n: u32,
+    call: F,
+) -> NumberRule<RootTwo, F>
     requires range { (0 < n) × (n ≤ 1000000) }
     requires keeps { KeepsItsRow 2 root_parts (Root n) (F.pre call) (F.post call) }
     ensures row { result.row ≡ Root n }
@@ -95,7 +101,10 @@ pub fn root_two_rule<F: Fn(Decimal) -> Result<RootTwo, Unread>>(n: u32, call: F)
 }
 
 /// The rule `root3:n`, by a function that reads by it.
-pub fn root_three_rule<F: Fn(Decimal) -> Result<RootThree, Unread>>(n: u32, call: F) -> NumberRule<RootThree, F>
+pub fn root_three_rule<F: Fn(Decimal) -> Result<RootThree, Unread>>(
+    n: u32,
+    call: F,
+) -> NumberRule<RootThree, F>
     requires range { (0 < n) × (n ≤ 1000000) }
     requires keeps { KeepsItsRow 3 root_parts (Root n) (F.pre call) (F.post call) }
     ensures row { result.row ≡ Root n }
@@ -106,5 +115,26 @@ pub fn root_three_rule<F: Fn(Decimal) -> Result<RootThree, Unread>>(n: u32, call
         row: Row::Root(n),
         call,
         number: PhantomData,
+    }
+}
+
+#[cfg(test)]
+mod tests {
+    use super::*;
+    use crate::readers::read_grid;
+    use fold_base::Text;
+    use rational::Rational;
+    use std::test::Fail;
+
+    #[test]
+    fn by_a_grid(rt: HostRuntime) -> Result<(), Fail> {
+        let rule = grid_rule(1000, |value: Decimal| read_grid::<Rational>(1000, value));
+        assert_eq!(rt; rule.tolerance(), 500_000_000_000_001);
+        let text = NumberText::read(Text::from_text(rt.alloc(), "0.3335")?);
+        let number = text.ok().ok_or("a number")?;
+        assert!(rt; number.bytes().len() <= 16_777_216);
+        let read = rule.apply(&number);
+        assert_eq!(rt; read.map(|x| x.parts()), Ok((167, 0, 500)));
+        Ok(())
     }
 }
