@@ -5,3 +5,5 @@ mod Steps
 mod Places
 mod Exponents
 mod Nearest
+mod RootSearch
+mod OneA

@@ -2,4 +2,5 @@ pub mod Value
 pub mod Rounded
 pub mod Cut
 pub mod Rows
+pub mod Search
 pub mod Kept
