@@ -57,7 +57,6 @@ pub fn read_decimal(text: &NumberText) -> Decimal
 #[cfg(test)]
 mod tests {
     use super::*;
-    use fold_base::Text;
     use std::test::Fail;
 
     const ONE: i128 = 1_000_000_000_000_000_000;
@@ -122,9 +121,7 @@ mod tests {
             ("0.00e999999999999999999999999", near(0, true)),
             ("-0e-999999999999999999999999", near(0, true)),
         ] {
-            let number = NumberText::read(Text::from_text(rt.alloc(), text)?)
-                .ok()
-                .ok_or("a number")?;
+            let number = NumberText::read(rt.alloc(), text)?;
             assert!(rt; number.bytes().len() <= 16_777_216);
             assert_eq!(rt; read_decimal(&number), decimal, "{text}");
         }

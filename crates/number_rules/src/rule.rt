@@ -122,7 +122,6 @@ pub fn root_three_rule<F: Fn(Decimal) -> Result<RootThree, Unread>>(
 mod tests {
     use super::*;
     use crate::readers::read_grid;
-    use fold_base::Text;
     use rational::Rational;
     use std::test::Fail;
 
@@ -130,8 +129,7 @@ mod tests {
     fn by_a_grid(rt: HostRuntime) -> Result<(), Fail> {
         let rule = grid_rule(1000, |value: Decimal| read_grid::<Rational>(1000, value));
         assert_eq!(rt; rule.tolerance(), 500_000_000_000_001);
-        let text = NumberText::read(Text::from_text(rt.alloc(), "0.3335")?);
-        let number = text.ok().ok_or("a number")?;
+        let number = NumberText::read(rt.alloc(), "0.3335")?;
         assert!(rt; number.bytes().len() <= 16_777_216);
         let read = rule.apply(&number);
         assert_eq!(rt; read.map(|x| x.parts()), Ok((167, 0, 500)));
