@@ -100,13 +100,23 @@ module _ {X : Type 0} (f : X → Bool) where
     first_is [] h = absurd (cc)
     first_is (x ∷ xs) h = elim (or_either (f x && g x) (not (f x) && first xs) h) [
       | inl e ↦ record {
-          before = []; after = xs; found = x; is = refl;
-          passes = and_first (f x) (g x) e; none_before = All-nil (λ x. f x ≡ false); also = and_second (f x) (g x) e;
-        }
+        before = [];
+        after = xs;
+        found = x;
+        is = refl;
+        passes = and_first (f x) (g x) e;
+        none_before = All-nil (λ x. f x ≡ false);
+        also = and_second (f x) (g x) e;
+      }
       | inr e ↦ let r = first_is xs (and_second (not (f x)) (first xs) e) in record {
-          before = x ∷ r.before; after = r.after; found = r.found; is = ap (λ ys. x ∷ ys) r.is;
-          passes = r.passes; none_before = All-cons (λ x. f x ≡ false) x r.before (not_true (f x) (and_first (not (f x)) (first xs) e)) r.none_before; also = r.also;
-        }
+        before = x ∷ r.before;
+        after = r.after;
+        found = r.found;
+        is = ap (λ ys. x ∷ ys) r.is;
+        passes = r.passes;
+        none_before = All-cons (λ x. f x ≡ false) x r.before (not_true (f x) (and_first (not (f x)) (first xs) e)) r.none_before;
+        also = r.also;
+      }
     ]
       where
         not_true : (b : Bool) → not b ≡ true → b ≡ false

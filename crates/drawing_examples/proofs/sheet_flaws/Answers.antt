@@ -19,9 +19,11 @@ returns-clause-edges_cross c = (
   edge 1 2 Valley,
   refl,
   refl,
-  inr (omega arith,
-      meet_beside integers (at (pos 0) (pos 0) ∷ at (pos 0) (pos 2) ∷ at (pos 2) (pos 0) ∷ at (pos 2) (pos 2) ∷ []) (edge 0 3 Mountain) (edge 1 2 Valley) (at (pos 1) (pos 1))
-          refl refl refl refl refl refl refl refl refl refl refl),
+  inr (
+    omega arith,
+    meet_beside integers (at (pos 0) (pos 0) ∷ at (pos 0) (pos 2) ∷ at (pos 2) (pos 0) ∷ at (pos 2) (pos 2) ∷ []) (edge 0 3 Mountain) (edge 1 2 Valley) (at (pos 1) (pos 1))
+        refl refl refl refl refl refl refl refl refl refl refl,
+  ),
 )
 
 pub returns-clause-edge_ends_alike : goal.returns-clause-edge_ends_alike
@@ -51,9 +53,12 @@ pub returns-clause-bent_inwards : goal.returns-clause-bent_inwards
 returns-clause-bent_inwards c = (
   2 ∷ 3 ∷ 0 ∷ 1 ∷ [],
   (face (2 ∷ 3 ∷ 0 ∷ 1 ∷ []), refl, refl),
-  ([], 3 ∷ 0 ∷ 1 ∷ [],
-      record { is = refl; b = 1; d = 3; others = 3 ∷ 0 ∷ []; to_d = 0 ∷ 1 ∷ []; ends_in_b = refl; begins_with_d = refl; bent = inr (3, (1, omega arith, refl), refl) },
-      λ sooner later z l. absurd (omega (arith, l))),
+  (
+    [],
+    3 ∷ 0 ∷ 1 ∷ [],
+    record { is = refl; b = 1; d = 3; others = 3 ∷ 0 ∷ []; to_d = 0 ∷ 1 ∷ []; ends_in_b = refl; begins_with_d = refl; bent = inr (3, (1, omega arith, refl), refl) },
+    λ sooner later z l. absurd (omega (arith, l)),
+  ),
 )
 
 pub returns-clause-border_without_face : goal.returns-clause-border_without_face
