@@ -2,7 +2,6 @@
 use Rattle.std.proofs.Common.{◌≡◌, ◌⊎◌, ℕ, List, Result, Ok, Err, inl, inr, refl, sym, ◌∙◌, subst}
 use Rattle.fold_program.specs.Steps.{Outcome, Then, Answers, Steps, Follows, Ends, due_with}
 use Rattle.fold_program.specs.declared.status.Status.{Status}
-use Rattle.fold_program.specs.declared.status.Status.TheVariants.{Memory}
 
 -- a step gives a value, and what follows answers this
 pub goes_on : {X : Type 0} (stops : Status → Type 0) (gives : X → Type 0) (next : X → Outcome) (x : X) → gives x → (r : Result (List ℕ) Status) → Follows (next x) r → Follows (Then stops gives next) r

@@ -1,5 +1,5 @@
 -- what the words say is one thing, and something
-use Rattle.std.proofs.Common.{◌≡◌, ◌≢◌, ◌⊎◌, ℕ, true, false, List, [], ◌∷◌, inl, inr, refl, sym, ◌∙◌, ap, subst, codes}
+use Rattle.std.proofs.Common.{◌≡◌, ◌≢◌, ◌⊎◌, true, false, List, [], ◌∷◌, inl, inr, refl, sym, ◌∙◌, ap, subst, codes}
 use Rattle.std.specs.declared.option.Option.{Option}
 use Rattle.std.specs.declared.option.Option.TheVariants.{None, Some}
 use Rattle.std.specs.Option.{option_map_or}
@@ -7,7 +7,7 @@ use Rattle.std.specs.Str.{bytes_eq}
 use Rattle.std.proofs.lemmas.Slice.Eq.{bytes_eq-Decides}
 use Rattle.std.proofs.lemmas.Bool.{false≢true}
 use Rattle.clap.specs.Words.{Kinds, Row}
-use Rattle.fold_program.specs.Words.{Text, name_of, NamesFormat, Says, Mean, AreTaken, AreWordsOf, AreRefused, Reads, TakeNothing, faults, found, said_in}
+use Rattle.fold_program.specs.Words.{Text, NamesFormat, Says, Mean, AreTaken, AreWordsOf, AreRefused, Reads, TakeNothing, faults, found, said_in}
 use Rattle.fold_program.specs.declared.status.Status.{Status}
 use Rattle.fold_program.specs.declared.status.Status.TheVariants.{Words}
 use Rattle.fold_program.specs.declared.status.WordsCause.TheVariants.{Refused, Value}

@@ -1,5 +1,5 @@
 -- from what is due to what was written
-use Rattle.std.proofs.Common.{◌≡◌, ◌≢◌, ◌⊎◌, ℕ, arith, List, [], Result, Ok, Err, None, Some, append-nil, inl, inr, refl, sym, subst}
+use Rattle.std.proofs.Common.{◌≡◌, ◌≢◌, ◌⊎◌, ℕ, arith, List, [], Result, Err, None, Some, append-nil, inl, inr, refl, sym, subst}
 use Rattle.std.specs.declared.option.Option.{Option}
 use Rattle.fold_base.specs.Outside.{Gains, GainsPart, Gives}
 use Rattle.fold_program.specs.Status.{IsFailure}

@@ -1,18 +1,17 @@
 -- words and bytes have one outcome
-use Rattle.std.proofs.Common.{◌≡◌, ◌⊎◌, ◌≤◌, ◌<◌, ℕ, List, ◌∷◌, [], ◌++◌, length, inl, inr, refl, sym, ◌∙◌, ap, arith, Some, None, subst}
+use Rattle.std.proofs.Common.{◌≡◌, ◌⊎◌, ℕ, List, ◌∷◌, [], ◌++◌, length, inl, inr, refl, sym, ◌∙◌, ap, arith, subst}
 use Rattle.std.specs.declared.option.Option.{Option}
 use Rattle.std.proofs.lemmas.Bool.{cases_lt}
 use Rattle.fold_base.specs.declared.outside.TheConstants.{MOST_BYTES}
 use Rattle.cp_lines.specs.CpText.{CpText}
 use Rattle.cp_lines.specs.Print as cp_form
 use Rattle.cp_lines.specs.Reads as cp
-use Rattle.json_tree.specs.Printed as json_form
+use Rattle.json_tree.specs.PrintedForm as json_form
 use Rattle.json_tree.specs.Spells.{Spells}
 use Rattle.json_read.specs.Causes as json
-use Rattle.fold_program.specs.Steps.{Outcome, Then}
 use Rattle.fold_program.specs.Status.{IsFailure}
-use Rattle.fold_program.specs.Words.{AreWordsOf, AreRefused, TakeNothing}
-use Rattle.fold_program.specs.Outcome.{HaveFault, Spell, AreUnread, AreRead, Makes, format_of, IsOutcome, IsOutcomeWritten, AreInput, AreLeft, KeepsToOutcome, HasOutcome, HaveOutcome, HaveAtMostOneOutcome}
+use Rattle.fold_program.specs.Words.{TakeNothing}
+use Rattle.fold_program.specs.Outcome.{HaveFault, Spell, AreUnread, AreRead, Makes, format_of, IsOutcome, AreInput, AreLeft, KeepsToOutcome, HasOutcome, HaveOutcome, HaveAtMostOneOutcome}
 use Rattle.fold_program.specs.declared.input.Input.{Input}
 use Rattle.fold_program.specs.declared.input.Input.TheVariants as input
 use Rattle.fold_program.specs.declared.status.Status.{Status}
@@ -92,8 +91,8 @@ one_made (Show options) (input.Fold tree) = one_answer _
 one_made (Show options) (input.Cp lines) = one_answer _
 
 some_made : (command : Command) (spelled : Input) → Comes (Makes command spelled)
-some_made (Show options) (input.Fold tree) = (Done, json_form.printed tree ++ 10 ∷ [], (refl, refl))
-some_made (Show options) (input.Cp lines) = (Done, cp_form.printed lines, (refl, refl))
+some_made (Show options) (input.Fold tree) = (Done, json_form.printed_form tree ++ 10 ∷ [], (refl, refl))
+some_made (Show options) (input.Cp lines) = (Done, cp_form.printed_form lines, (refl, refl))
 
 -- ---- words and bytes
 

@@ -1,5 +1,5 @@
 -- `clap` takes words of the plain form, and finds in them what they say
-use Rattle.std.proofs.Common.{◌≡◌, ◌∙◌, ◌++◌, ◌||◌, ◌&&◌, ◌==◌, ◌<◌, ℕ, zero, suc, Bool, true, false, not, cond, List, [], ◌∷◌, length, map, subst, sym, ap, ap₂, codes, refl, arith, append-nil, append_assoc}
+use Rattle.std.proofs.Common.{◌≡◌, ◌∙◌, ◌++◌, ◌||◌, ◌&&◌, ◌==◌, ℕ, zero, suc, Bool, true, false, not, List, [], ◌∷◌, map, subst, sym, ap, ap₂, codes, refl, arith, append-nil, append_assoc}
 use Rattle.std.specs.declared.option.Option.{Option}
 use Rattle.std.specs.declared.option.Option.TheVariants.{None, Some}
 use Rattle.std.specs.Prelude.{option_map, option_and_then, is_some, if◌then◌else◌, slice_get}
@@ -8,13 +8,14 @@ use Rattle.std.specs.Option.{option_map_or}
 use Rattle.std.specs.Str.{bytes_eq}
 use Rattle.std.proofs.lemmas.Slice.Eq.{bytes_eq-Decides}
 use Rattle.std.proofs.lemmas.Bool.Decides.{nat_tests}
-use Rattle.clap.specs.Words.{App, Kinds, Row, Rule, Shape, fault_of, subcommand_of}
+use Rattle.clap.specs.Words.{App, Kinds, Row, Rule, Shape}
 use Rattle.clap.specs.Lexer.{long_of, long_of_rest, name_and_value}
-use Rattle.clap.specs.Walk.{Held, Names, Walk, after_flag, after_step, answers_to, arg_by_long, at_row, finished, has_row, idle, is_empty, long_met, long_or_other, more_values, nothing_held, reading_by, rows_after, settled, subcommand_met, subcommand_or_other, trailing, walk, walk_from, walked, with_default, with_values, without}
+use Rattle.clap.specs.Walk.{Held, Names, Walk, after_flag, after_step, answers_to, arg_by_long, at_row, finished, has_row, idle, long_met, long_or_other, more_values, nothing_held, reading_by, rows_after, settled, subcommand_met, subcommand_or_other, trailing, walk, walk_from, walked, with_default, with_values, without}
 use Rattle.clap.specs.Simple.{built, built_leaf, entered, filled, help_rule, help_shape, label_of, names_of, new_shape, rows_at, with_index}
-use Rattle.clap.specs.Faults.{built_fault, check_fault, default_fault, defaults_fault, entered_fault, flag_word_fault, level_fault, long_fault, other_fault, settle_fault, set_fault, step_fault, turn_fault, values_fault, walk_fault}
+use Rattle.clap.specs.Faults.{built_fault, check_fault, defaults_fault, entered_fault, flag_word_fault, level_fault, long_fault, other_fault, settle_fault, step_fault, turn_fault, values_fault, walk_fault}
 use Rattle.clap.specs.Kinds.{check_kinds, or_else}
 use Rattle.clap.specs.Takes.{is_given}
+use Rattle.clap.specs.declared.error.kind.ErrorKind.TheVariants as kind
 use Rattle.clap.specs.declared.parser.matches.ValueSource.TheVariants.{CommandLine}
 use Rattle.clap.proofs.CutLemmas.{Lacks}
 use Rattle.clap.proofs.FaultLemmas.{stopped_fault}
@@ -166,7 +167,7 @@ module _ (entry : Listed) where
             or_else (long_fault rules false rule (Some v) (held rows)) (step_fault (leaf entry) 1 m.0 m.1)
 
         C : Bool → Kinds
-        C has = or_else (or_else (if has && not false then Rattle.clap.specs.declared.error.kind.ErrorKind.TheVariants.ArgumentConflict ∷ [] else []) (values_fault (option_built n) (v ∷ []))) []
+        C has = or_else (or_else (if has && not false then kind.ArgumentConflict ∷ [] else []) (values_fault (option_built n) (v ∷ []))) []
 
 -- ---- all the words after the command
 
@@ -291,7 +292,7 @@ module _ (a : App) (name : Text) (rest : List Text) (met : subcommand_met (names
           or_else (other_fault a.top o name nothing_held) (step_fault a.top 1 m.0 m.1)
 
       B : Bool → Kinds
-      B help = or_else (if help && not a.top.disable_help_subcommand then Rattle.clap.specs.declared.error.kind.ErrorKind.TheVariants.DisplayHelp ∷ Rattle.clap.specs.declared.error.kind.ErrorKind.TheVariants.InvalidSubcommand ∷ [] else []) []
+      B help = or_else (if help && not a.top.disable_help_subcommand then kind.DisplayHelp ∷ kind.InvalidSubcommand ∷ [] else []) []
 
   top_faultless : bytes_eq name (codes "help") ≡ false → walk_fault a.top (names_of a) start (name ∷ rest) ≡ []
   unfolding walk_fault

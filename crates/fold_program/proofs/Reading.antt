@@ -1,5 +1,5 @@
 -- what reading answers, from what the readers answer
-use Rattle.std.proofs.Common.{◌≡◌, ◌⊎◌, ℕ, ◌≤◌, ◌<◌, arith, None, Some, List, length, Err, inl, inr, refl, subst, IfSome}
+use Rattle.std.proofs.Common.{◌≡◌, ℕ, ◌≤◌, ◌<◌, arith, None, Some, List, length, Err, inl, inr, refl, subst, IfSome}
 use Rattle.std.specs.declared.option.Option.{Option}
 use Rattle.fold_base.specs.declared.outside.TheConstants.{MOST_BYTES}
 use Rattle.fold_base.specs.declared.pieces.ReadFault.{ReadFault}

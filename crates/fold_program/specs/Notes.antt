@@ -6,7 +6,8 @@ use Rattle.fold_program.specs.Status.{IsAnswer}
 use Rattle.cp_lines.specs.FaultText as cp
 use Rattle.json_read.specs.FaultText as json
 use Rattle.fold_program.specs.declared.status.Status.{Status}
-use Rattle.fold_program.specs.declared.status.Status.TheVariants.{Done, Text, Words, Read, Write, Limit, Memory}
+use Rattle.fold_program.specs.declared.status.Status.TheVariants.{Done, Text, Words, Read, Write}
+use Rattle.fold_program.specs.declared.status.Status.TheVariants.{Limit, Memory}
 use Rattle.fold_program.specs.declared.status.TextFault.{TextFault}
 use Rattle.fold_program.specs.declared.status.TextFault.TheVariants.{Json, Cp}
 use Rattle.fold_program.specs.declared.status.WordsCause.{WordsCause}
@@ -44,10 +45,14 @@ note_line status = codes "fold_program: " ++ message status ++ 10 ∷ []
 
 -- these bytes were gained, or a front of them
 abbrev pub GainsFront : Option (List ℕ) → Option (List ℕ) → List ℕ → Type 0
-GainsFront before after bytes = (front : List ℕ) × (rest : List ℕ) × (bytes ≡ front ++ rest) × Gains before after front
+GainsFront before after bytes =
+    (front : List ℕ) × (rest : List ℕ) × (bytes ≡ front ++ rest) × Gains before after front
 
--- notes get at most the line on the status, and nothing on an answer; where they don't fail, they get it whole or nothing of it
-pub record IsNoted {E : Type 0} (written : E → Option (List ℕ)) (faults : E → ℕ) (old new : E) (status : Status) : Type 0 where
+-- notes get at most the line on the status, and nothing on an answer; where they don't fail, they
+-- get it whole or nothing of it
+pub record IsNoted {E : Type 0} (written : E → Option (List ℕ)) (faults : E → ℕ) (old new : E)
+    (status : Status) : Type 0 where
   pub quiet : IsAnswer status → new ≡ old
   pub line : GainsFront (written old) (written new) (note_line status)
-  pub whole : ¬ (Rose (faults old) (faults new)) → (new ≡ old) ⊎ Gains (written old) (written new) (note_line status)
+  pub whole : ¬ (Rose (faults old) (faults new))
+      → (new ≡ old) ⊎ Gains (written old) (written new) (note_line status)

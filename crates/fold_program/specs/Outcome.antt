@@ -1,5 +1,6 @@
 -- the outcome of words and bytes, and what it has to do with the outside
-use Rattle.std.specs.Prelude.{◌≡◌, ◌⊎◌, ℕ, ◌<◌, ◌≤◌, List, [], ◌∷◌, ◌++◌, length, Some, None, Result, Ok, Err}
+use Rattle.std.specs.Prelude.{◌≡◌, ◌⊎◌, ℕ, ◌<◌, ◌≤◌, List, [], ◌∷◌, ◌++◌, length}
+use Rattle.std.specs.Prelude.{Some, None, Result, Ok, Err}
 use Rattle.std.specs.List.{All}
 use Rattle.std.specs.declared.option.Option.{Option}
 use Rattle.fold_base.specs.Outside.{Gains, GainsPart}
@@ -8,7 +9,7 @@ use Rattle.cp_lines.specs.CpText.{CpText}
 use Rattle.cp_lines.specs.Print as cp_form
 use Rattle.cp_lines.specs.Reads as cp
 use Rattle.cp_lines.specs.declared.fault.CpFault.{CpFault}
-use Rattle.json_tree.specs.Printed as json_form
+use Rattle.json_tree.specs.PrintedForm as json_form
 use Rattle.json_tree.specs.Spells.{Spells}
 use Rattle.json_tree.specs.Tree.{IsProper}
 use Rattle.json_read.specs.Causes as json
@@ -35,8 +36,10 @@ AreTooMany bytes status = (MOST_BYTES < length bytes) × (status ≡ Limit TooLo
 
 -- the bytes are no text of the format, and the status names their first fault
 abbrev pub HaveFault : Format → List ℕ → Status → Type 0
-HaveFault Fold bytes status = (fault : JsonFault) × json.NamesFirstFault bytes fault × (status ≡ Text (faults.Json fault))
-HaveFault Cp bytes status = (fault : CpFault) × cp.NamesFirstFault bytes fault × (status ≡ Text (faults.Cp fault))
+HaveFault Fold bytes status =
+    (fault : JsonFault) × json.NamesFirstFault bytes fault × (status ≡ Text (faults.Json fault))
+HaveFault Cp bytes status =
+    (fault : CpFault) × cp.NamesFirstFault bytes fault × (status ≡ Text (faults.Cp fault))
 
 -- the bytes are a text of the format, and this is what it spells
 abbrev pub Spell : Format → List ℕ → Input → Type 0
@@ -47,7 +50,8 @@ Spell Cp bytes (input.Cp lines) = CpText bytes lines
 
 -- the bytes aren't read: there are too many, or else they have a fault
 abbrev pub AreUnread : Format → List ℕ → Status → Type 0
-AreUnread format bytes status = AreTooMany bytes status ⊎ ((length bytes ≤ MOST_BYTES) × HaveFault format bytes status)
+AreUnread format bytes status =
+    AreTooMany bytes status ⊎ ((length bytes ≤ MOST_BYTES) × HaveFault format bytes status)
 
 -- the bytes are read: there are no more than a text may have, and this is what they spell
 abbrev pub AreRead : Format → List ℕ → Input → Type 0
@@ -64,17 +68,19 @@ abbrev pub IsSound : Input → Type 0
 IsSound (input.Fold tree) = IsProper tree
 IsSound (input.Cp lines) = All (λ line. line.kind ≤ 4) lines
 
--- what reading answers: what the bytes spell, a status where they aren't read, or that reading or the memory failed
+-- what reading answers: what the bytes spell, a status where they aren't read, or that reading or
+-- the memory failed
 abbrev pub IsReading : Format → List ℕ → Result Input Status → Type 0
 IsReading format bytes (Ok spelled) = AreRead format bytes spelled
-IsReading format bytes (Err status) = ((status ≡ Read) ⊎ (status ≡ Memory)) ⊎ AreUnread format bytes status
+IsReading format bytes (Err status) =
+    ((status ≡ Read) ⊎ (status ≡ Memory)) ⊎ AreUnread format bytes status
 
 -- ---- the commands
 
 -- what was read, in its printed form; that of a tree becomes a line
 abbrev pub Shows : Input → Outcome
-Shows (input.Fold tree) = Answers (json_form.printed tree ++ 10 ∷ [])
-Shows (input.Cp lines) = Answers (cp_form.printed lines)
+Shows (input.Fold tree) = Answers (json_form.printed_form tree ++ 10 ∷ [])
+Shows (input.Cp lines) = Answers (cp_form.printed_form lines)
 
 -- the format that a command reads
 abbrev pub format_of : Command → Format
@@ -86,9 +92,11 @@ Makes (Show options) = Shows
 
 -- what a command makes of the bytes: they aren't read, or it makes something of what they spell
 abbrev pub Does : Command → List ℕ → Outcome
-Does command bytes = Then (AreUnread (format_of command) bytes) (AreRead (format_of command) bytes) (Makes command)
+Does command bytes =
+    Then (AreUnread (format_of command) bytes) (AreRead (format_of command) bytes) (Makes command)
 
--- the outcome of words and bytes: the words are refused, or they are a command's, which does something
+-- the outcome of words and bytes: the words are refused, or they are a command's, which does
+-- something
 abbrev pub IsOutcome : List (List ℕ) → List ℕ → Outcome
 IsOutcome words bytes = Then (AreRefused words) (AreWordsOf words) (λ command. Does command bytes)
 
@@ -103,24 +111,32 @@ abbrev pub AreLeft : Option (List ℕ) → List ℕ → Type 0
 AreLeft None bytes = Unit {0}
 AreLeft (Some left) bytes = bytes ≡ left
 
--- the status is the outcome, and, where the sink tells its bytes, its text was written and nothing else
-abbrev pub IsOutcomeWritten : List (List ℕ) → List ℕ → Option (List ℕ) → Option (List ℕ) → Status → Type 0
-IsOutcomeWritten words bytes before after status = (text : List ℕ) × IsOutcome words bytes status text × Gains before after text
+-- the status is the outcome, and, where the sink tells its bytes, its text was written and nothing
+-- else
+abbrev pub IsOutcomeWritten : List (List ℕ) → List ℕ → Option (List ℕ) → Option (List ℕ) → Status
+    → Type 0
+IsOutcomeWritten words bytes before after status =
+    (text : List ℕ) × IsOutcome words bytes status text × Gains before after text
 
 -- a text was due, and, where the sink tells its bytes, a proper prefix of it was written
 abbrev pub IsOutcomeCutShort : List (List ℕ) → List ℕ → Option (List ℕ) → Option (List ℕ) → Type 0
 IsOutcomeCutShort words bytes before after =
-    (due : Status) × (text : List ℕ) × IsAnswer due × IsOutcome words bytes due text × GainsPart before after text
+    (due : Status) × (text : List ℕ) × IsAnswer due × IsOutcome words bytes due text
+    × GainsPart before after text
 
--- unless the outside or the memory failed, the status is the outcome and its text was written; where writing failed, a proper
--- prefix of it was
-abbrev pub KeepsToOutcome : List (List ℕ) → List ℕ → Option (List ℕ) → Option (List ℕ) → Status → Type 0
+-- unless the outside or the memory failed, the status is the outcome and its text was written;
+-- where writing failed, a proper prefix of it was
+abbrev pub KeepsToOutcome : List (List ℕ) → List ℕ → Option (List ℕ) → Option (List ℕ) → Status
+    → Type 0
 KeepsToOutcome words bytes before after status =
-    (IsFailure status ⊎ IsOutcomeWritten words bytes before after status) × (status ≡ Write → IsOutcomeCutShort words bytes before after)
+    (IsFailure status ⊎ IsOutcomeWritten words bytes before after status)
+    × (status ≡ Write → IsOutcomeCutShort words bytes before after)
 
 -- the same of all the bytes that were left, or of some where that isn't told
-abbrev pub HasOutcome : List (List ℕ) → Option (List ℕ) → Option (List ℕ) → Option (List ℕ) → Status → Type 0
-HasOutcome words left before after status = (bytes : List ℕ) × AreLeft left bytes × KeepsToOutcome words bytes before after status
+abbrev pub HasOutcome : List (List ℕ) → Option (List ℕ) → Option (List ℕ) → Option (List ℕ) → Status
+    → Type 0
+HasOutcome words left before after status =
+    (bytes : List ℕ) × AreLeft left bytes × KeepsToOutcome words bytes before after status
 
 -- words and bytes have an outcome
 abbrev pub HaveOutcome : List (List ℕ) → List ℕ → Type 0
@@ -128,4 +144,5 @@ HaveOutcome words bytes = (status : Status) × (text : List ℕ) × IsOutcome wo
 
 -- words and bytes have one outcome at most: one status, and one text
 abbrev pub HaveAtMostOneOutcome : List (List ℕ) → List ℕ → Type 0
-HaveAtMostOneOutcome words bytes = (s s' : Status) (t t' : List ℕ) → IsOutcome words bytes s t → IsOutcome words bytes s' t' → (s ≡ s') × (t ≡ t')
+HaveAtMostOneOutcome words bytes = (s s' : Status) (t t' : List ℕ) → IsOutcome words bytes s t
+    → IsOutcome words bytes s' t' → (s ≡ s') × (t ≡ t')

@@ -22,9 +22,11 @@ TakesAll (Limit TooLong) = ⊥
 TakesAll Memory = ⊥
 TakesAll _ = Unit {0}
 
--- what a run takes from the source: nothing where the words take nothing, and else no byte after the first that is past the limit;
--- what is read as a text is all that was left, and reading fails only from outside
-pub record TakesFrom {S : Type 0} (left : S → Option (List ℕ)) (faults : S → ℕ) (words : List (List ℕ)) (old new : S) (status : Status) : Type 0 where
+-- what a run takes from the source: nothing where the words take nothing, and else no byte after
+-- the first that is past the limit; what is read as a text is all that was left, and reading fails
+-- only from outside
+pub record TakesFrom {S : Type 0} (left : S → Option (List ℕ)) (faults : S → ℕ)
+    (words : List (List ℕ)) (old new : S) (status : Status) : Type 0 where
   pub taken : (bytes : List ℕ) × Gives (left old) (left new) bytes × Takes status (length bytes)
   pub all : TakesAll status → TakeNothing words ⊎ IsSpent (left new)
   pub nothing : TakeNothing words → (new ≡ old) × (status ≢ Read)

@@ -10,7 +10,8 @@ use Rattle.cp_lines.specs.declared.fault.CpReadFault.TheVariants as cp
 use Rattle.json_read.specs.declared.fault.JsonReadFault.{JsonReadFault}
 use Rattle.json_read.specs.declared.fault.JsonReadFault.TheVariants as json
 use Rattle.fold_program.specs.declared.status.Status.{Status}
-use Rattle.fold_program.specs.declared.status.Status.TheVariants.{Done, Text, Words, Read, Write, Limit, Memory}
+use Rattle.fold_program.specs.declared.status.Status.TheVariants.{Done, Text, Words, Read, Write}
+use Rattle.fold_program.specs.declared.status.Status.TheVariants.{Limit, Memory}
 use Rattle.fold_program.specs.declared.status.TextFault.TheVariants.{Json, Cp}
 use Rattle.fold_program.specs.declared.status.WordsCause.TheVariants.{Refused}
 use Rattle.fold_program.specs.declared.status.Limit.TheVariants.{TooLong}
@@ -60,4 +61,5 @@ of_cp (cp.Memory error) = Memory
 
 -- the status where `clap` doesn't take the words: want of memory is no fault of theirs
 abbrev pub IsOfWords : Error → Status → Type 0
-IsOfWords error status = ((kind_of error ≡ OutOfMemory) × (status ≡ Memory)) ⊎ ((kind_of error ≢ OutOfMemory) × (status ≡ Words Refused))
+IsOfWords error status = ((kind_of error ≡ OutOfMemory) × (status ≡ Memory))
+    ⊎ ((kind_of error ≢ OutOfMemory) × (status ≡ Words Refused))

@@ -1,9 +1,11 @@
 -- the words of the command line
-use Rattle.std.specs.Prelude.{◌≡◌, ◌≢◌, ◌⊎◌, ◌++◌, ◌∷◌, ℕ, List, [], map, codes, Option, Some, None, String, string_bytes, IsTrue, true, fold, if◌then◌else◌}
+use Rattle.std.specs.Prelude.{◌≡◌, ◌≢◌, ◌⊎◌, ◌++◌, ◌∷◌, ℕ, List, [], map, fold, Option, Some}
+use Rattle.std.specs.Prelude.{None, String, string_bytes, codes, IsTrue, true, if◌then◌else◌}
 use Rattle.std.specs.List.{find, list_any}
 use Rattle.std.specs.Str.{bytes_eq}
 use Rattle.std.specs.declared.alloc.Global.{Global}
-use Rattle.clap.specs.Words.{App, Kinds, Row, Rule, Shape, fault_of, first_of, new_rule, new_app, subcommand_of, with_subcommand}
+use Rattle.clap.specs.Words.{App, Kinds, Row, Rule, Shape, fault_of, first_of, new_rule, new_app}
+use Rattle.clap.specs.Words.{subcommand_of, with_subcommand}
 use Rattle.clap.specs.Simple.{new_shape}
 use Rattle.clap.specs.declared.builder.action.ArgAction.TheVariants.{Set}
 use Rattle.fold_program.specs.declared.words.Entry.{Entry}
@@ -40,20 +42,25 @@ name_of Cp = codes "cp"
 abbrev pub NamesFormat : Text → Format → Type 0
 NamesFormat text format = text ≡ name_of format
 
--- what is said of an option: its value is the one that the text names, and its default where nothing is said
+-- what is said of an option: its value is the one that the text names, and its default where
+-- nothing is said
 abbrev pub Says : {X : Type 0} → (Text → X → Type 0) → X → Option Text → X → Type 0
 Says names default None value = value ≡ default
 Says names default (Some text) value = names text value
 
 -- a command's name, and what is said of each option, mean this command
 abbrev pub Mean : Text → (Text → Option Text) → Command → Type 0
-Mean name said (Show options) = (name ≡ codes "show") × Says NamesFormat Fold (said (codes "from")) options.from
+Mean name said (Show options) =
+    (name ≡ codes "show") × Says NamesFormat Fold (said (codes "from")) options.from
 
 -- ---- the words as `clap` takes them
 
 -- an entry of the program's own table
 abbrev pub as_listed : Entry → Listed
-as_listed entry = record { name = entry.name.now; options = map (λ option. option.now) entry.options.now }
+as_listed entry = record {
+  name = entry.name.now;
+  options = map (λ option. option.now) entry.options.now;
+}
 
 -- each option takes a value, need not stand there and has no default
 abbrev pub option_rule : Text → Rule
@@ -67,7 +74,9 @@ abbrev pub with_entry : App → Listed → App
 with_entry above entry = with_subcommand above (subcommand_shape entry)
 
 abbrev pub no_entries : App
-no_entries = record (new_app (codes "fold_program")) { top = record (new_shape (codes "fold_program")) { no_binary_name = true } }
+no_entries = record (new_app (codes "fold_program")) {
+  top = record (new_shape (codes "fold_program")) { no_binary_name = true };
+}
 
 abbrev pub app : App
 app = fold with_entry no_entries table
@@ -91,13 +100,16 @@ AreTaken words name rows = (faults words ≡ []) × (found words ≡ Some (name,
 -- ---- what the words mean
 
 abbrev pub AreWordsOf : List Text → Command → Type 0
-AreWordsOf words command = (name : Text) × (rows : List Row) × AreTaken words name rows × Mean name (said_in rows) command
+AreWordsOf words command =
+    (name : Text) × (rows : List Row) × AreTaken words name rows × Mean name (said_in rows) command
 
--- the words are refused: by `clap`, or because it finds no command, or because an option has a value that it doesn't take
+-- the words are refused: by `clap`, or because it finds no command, or because an option has a
+-- value that it doesn't take
 abbrev pub AreRefused : List Text → Status → Type 0
 AreRefused words status =
     (((faults words ≢ []) ⊎ (found words ≡ None)) × (status ≡ Words Refused))
-    ⊎ ((name : Text) × (rows : List Row) × AreTaken words name rows × ((command : Command) → ¬ Mean name (said_in rows) command) × (status ≡ Words Value))
+    ⊎ ((name : Text) × (rows : List Row) × AreTaken words name rows
+    × ((command : Command) → ¬ Mean name (said_in rows) command) × (status ≡ Words Value))
 
 -- the command reads the input
 abbrev pub Reads : Command → Type 0
@@ -121,13 +133,17 @@ said_by (p ∷ ps) option = if bytes_eq p.0 option then Some p.1 else said_by ps
 -- the pairs name these options, and none twice
 abbrev pub NameOnce : List Text → List (Text × Text) → Type 0
 NameOnce options [] = Unit {0}
-NameOnce options (p ∷ ps) = IsTrue (list_any (λ option. bytes_eq option p.0) options) × (said_by ps p.0 ≡ None) × NameOnce options ps
+NameOnce options (p ∷ ps) = IsTrue (list_any (λ option. bytes_eq option p.0) options)
+    × (said_by ps p.0 ≡ None) × NameOnce options ps
 
 -- the first entry of the table with this name
 abbrev pub entry_of : Text → Option Listed
 entry_of name = find (λ entry. bytes_eq entry.name name) table
 
--- a command of the table, and then options that it takes, each at most once and in any order, with values that they take
+-- a command of the table, and then options that it takes, each at most once and in any order, with
+-- values that they take
 abbrev pub ArePlainWordsOf : List Text → Command → Type 0
-ArePlainWordsOf words command = (entry : Listed) × (pairs : List (Text × Text)) × (entry_of entry.name ≡ Some entry)
-    × (words ≡ entry.name ∷ map plain_word pairs) × NameOnce entry.options pairs × Mean entry.name (said_by pairs) command
+ArePlainWordsOf words command =
+    (entry : Listed) × (pairs : List (Text × Text)) × (entry_of entry.name ≡ Some entry)
+    × (words ≡ entry.name ∷ map plain_word pairs) × NameOnce entry.options pairs
+    × Mean entry.name (said_by pairs) command

@@ -11,13 +11,13 @@ use json_tree::print;
 use std::alloc::Global;
 
 /// The text that the command makes of what was read.
-pub fn act(alloc: Global, command: &Command, input: &Input) -> Result<Text, Status>
-    requires format { HasFormat (format_of command.now) input.now }
-    requires sound { IsSound input.now }
-    ensures { Follows (Makes command.now input.now) result }
+pub fn act(alloc: Global, command: &Command, input: Input) -> Result<Text, Status>
+    requires format { HasFormat (format_of command.now) input }
+    requires sound { IsSound input }
+    ensures { Follows (Makes command.now input) result }
 {
     match command {
-        Command::Show(_) => show(alloc, input),
+        Command::Show(_) => show(alloc, &input),
     }
 }
 
@@ -28,8 +28,9 @@ fn show(alloc: Global, input: &Input) -> Result<Text, Status>
 {
     match input {
         Input::Fold(tree) => {
-            let printed = print(alloc, tree)?;
-            Ok(Text::from_string(format!(in alloc; "{printed}\n")?))
+            let mut text = print(alloc, tree)?;
+            text.push('\n')?;
+            Ok(text)
         }
         Input::Cp(lines) => Ok(print_cp(alloc, lines)?),
     }

@@ -1,5 +1,5 @@
 // What a command reads.
-ghost use Rattle.std.specs.Prelude.{◌≡◌, ◌⊎◌, ◌≤◌, ◌<◌, [], List, ℕ, Ok, Err, length, IfOk, IfErr, IfSome, OnOk};
+ghost use Rattle.std.specs.Prelude.{◌≡◌, ◌≤◌, ◌<◌, [], List, ℕ, Ok, Err, length, IfOk, IfErr, IfSome, OnOk};
 ghost use Rattle.fold_base.specs.Outside.{Rose, Gives, IsSpent};
 ghost use Rattle.fold_program.specs.Status.{of_read, status_of};
 ghost use Rattle.fold_program.specs.Outcome.{AreLeft, HasFormat, IsReading, IsSound};
@@ -22,7 +22,8 @@ pub enum Input {
 
 /// What the bytes spell that the source has left.
 pub fn read_input<S: Source>(alloc: Global, format: Format, source: &mut S) -> Result<Input, Status>
-    ensures answer { (bytes : List ℕ) × AreLeft (S.left source.old) bytes × IsReading format bytes result }
+    ensures answer { (bytes : List ℕ) × AreLeft (S.left source.old) bytes
+        × IsReading format bytes result }
     ensures format { IfOk result (HasFormat format) }
     ensures sound { IfOk result IsSound }
     ensures read { result ≡ Err Status.Read → Rose (S.faults source.old) (S.faults source.new) }

@@ -1,7 +1,7 @@
 //! A verified tool for origami crease patterns.
 //!
-//! `fold_program show` reads a FOLD file, which is JSON, from standard input and writes it in printed form;
-//! `fold_program show --from=cp` does so with CP text.
+//! `fold_program show` reads a FOLD file, which is JSON, from standard input and writes it in
+//! printed form; `fold_program show --from=cp` does so with CP text.
 #![tactic(auto)]
 
 mod act;

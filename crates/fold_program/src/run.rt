@@ -30,14 +30,16 @@ pub fn run<S: Source, T: Sink, E: Sink>(
     // Unless reading, writing or memory failed, the status is the outcome of the words and all the
     // bytes that were left, and its text was written and nothing else. Where writing failed, a
     // proper prefix of it was. Where the source doesn't tell its bytes, this is so of some.
-    ensures outcome { HasOutcome (texts words.now) (S.left source.old) (T.written sink.old) (T.written sink.new) result }
+    ensures outcome { HasOutcome (texts words.now) (S.left source.old)
+        (T.written sink.old) (T.written sink.new) result }
 
     // Where nothing failed outside, the status is the outcome, or memory is wanting.
     ensures complete { ¬ (Rose (S.faults source.old) (S.faults source.new)) →
         ¬ (Rose (T.faults sink.old) (T.faults sink.new)) →
         (bytes : List ℕ) → AreInput (texts words.now) (S.left source.old) bytes →
         (result ≡ Status.Memory)
-        ⊎ IsOutcomeWritten (texts words.now) bytes (T.written sink.old) (T.written sink.new) result }
+        ⊎ IsOutcomeWritten (texts words.now) bytes
+        (T.written sink.old) (T.written sink.new) result }
 
     // No byte is taken after the first that is past the limit, and none where the words take
     // nothing. Nothing is put where no text is due. Notes get at most the line on the status.
@@ -78,15 +80,17 @@ pub fn one_outcome()
 
 /// Words of the plain form mean the command that they say, and are never refused.
 pub fn plain_words()
-    ensures meant { (words : List (List ℕ)) (command : Command) → ArePlainWordsOf words command → AreWordsOf words command }
-    ensures taken { (words : List (List ℕ)) (command : Command) (status : Status) → ArePlainWordsOf words command → ¬ AreRefused words status }
+    ensures meant { (words : List (List ℕ)) (command : Command) → ArePlainWordsOf words command →
+        AreWordsOf words command }
+    ensures taken { (words : List (List ℕ)) (command : Command) (status : Status) →
+        ArePlainWordsOf words command → ¬ AreRefused words status }
 {}
 
 /// What a run keeps to, it keeps to of all the bytes that were left where that's told, and of any
 /// bytes where the words take nothing.
 pub fn outcome_of_input()
-    ensures { (words : List (List ℕ)) (left before after : Option (List ℕ)) (status : Status) (bytes : List ℕ) →
-        HasOutcome words left before after status → AreInput words left bytes →
+    ensures { (words : List (List ℕ)) (left before after : Option (List ℕ)) (status : Status)
+        (bytes : List ℕ) → HasOutcome words left before after status → AreInput words left bytes →
         KeepsToOutcome words bytes before after status }
 {}
 
@@ -97,7 +101,8 @@ fn perform<S: Source, T: Sink>(
     source: &mut S,
     sink: &mut T,
 ) -> Status
-    ensures outcome { HasOutcome (texts words.now) (S.left source.old) (T.written sink.old) (T.written sink.new) result }
+    ensures outcome { HasOutcome (texts words.now) (S.left source.old)
+        (T.written sink.old) (T.written sink.new) result }
     ensures source { TakesFrom S.left S.faults (texts words.now) source.old source.new result }
     ensures sink { PutsInto T.faults sink.old sink.new result }
 {
@@ -119,5 +124,5 @@ fn prepare<S: Source>(alloc: Global, words: &[String], source: &mut S) -> Result
 {
     let command = read_words(alloc, words)?;
     let input = read_input(alloc, command.format(), source)?;
-    act(alloc, &command, &input)
+    act(alloc, &command, input)
 }

@@ -170,6 +170,8 @@ impl fmt::Display for TextFault {
     }
 }
 
+impl std::error::Error for TextFault {}
+
 impl fmt::Display for WordsCause {
     ghost use Rattle.std.specs.Prelude.{Some};
     ghost use Rattle.fold_program.specs.Notes.{words_message};
@@ -184,6 +186,8 @@ impl fmt::Display for WordsCause {
     }
 }
 
+impl std::error::Error for WordsCause {}
+
 impl fmt::Display for Limit {
     ghost use Rattle.std.specs.Prelude.{Some};
     ghost use Rattle.fold_program.specs.Notes.{limit_message};
@@ -196,3 +200,5 @@ impl fmt::Display for Limit {
         })
     }
 }
+
+impl std::error::Error for Limit {}

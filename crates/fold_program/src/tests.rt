@@ -215,7 +215,8 @@ fn names_the_first_fault(rt: HostRuntime) -> Result<(), Fail> {
     Ok(())
 }
 
-/// What `clap` makes of lists of words, by its own rules, and of a value that is none of its option.
+/// What `clap` makes of lists of words by its own rules, and what comes of a value that is none of
+/// its option's.
 #[test]
 fn reads_words(rt: HostRuntime) -> Result<(), Fail> {
     let fold = Ok(Format::Fold);

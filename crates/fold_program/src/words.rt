@@ -1,5 +1,5 @@
 // The words of the command line, read by the crate `clap`.
-ghost use Rattle.std.specs.Prelude.{◌≡◌, ◌≢◌, ◌⊎◌, [], IfOk, IfErr, false, map, option_map};
+ghost use Rattle.std.specs.Prelude.{◌≡◌, ◌≢◌, ◌⊎◌, [], IfOk, IfErr, false, option_map};
 ghost use Rattle.clap.specs.Words.{app_of, found_of, rows_of, shape_of, subcommand_rows_of};
 ghost use Rattle.clap.specs.declared.builder.command.Command.TheViews.{out-Command};
 ghost use Rattle.fold_program.specs.Words.{texts, app, faults, found, as_listed, subcommand_shape, said_in, Mean, NamesFormat, Says, AreWordsOf, AreRefused};
@@ -55,7 +55,8 @@ static TABLE: [Entry; 1] = [Entry {
 /// The command that the words mean.
 pub fn read_words(alloc: Global, words: &[String]) -> Result<Command, Status>
     ensures ok { IfOk result (AreWordsOf (texts words.now)) }
-    ensures err { IfErr result (λ status. (status ≡ Status.Memory) ⊎ AreRefused (texts words.now) status) }
+    ensures err { IfErr result (λ status.
+        (status ≡ Status.Memory) ⊎ AreRefused (texts words.now) status) }
 {
     let matches = matches_of(alloc, words)?;
     match matches.subcommand() {
@@ -86,7 +87,8 @@ fn command_line<'a>(alloc: Global) -> Result<clap::Command<'a>, AllocError>
 }
 
 fn subcommand<'a>(alloc: Global, entry: &Entry) -> Result<clap::Command<'a>, AllocError>
-    ensures shape { IfOk result (λ command. shape_of command ≡ subcommand_shape (as_listed entry.now)) }
+    ensures shape { IfOk result (λ command.
+        shape_of command ≡ subcommand_shape (as_listed entry.now)) }
     ensures local { IfOk result (λ command. (out-Command command).has_globals ≡ false) }
 {
     let mut command = clap::Command::new(alloc, entry.name);
@@ -101,7 +103,8 @@ fn subcommand<'a>(alloc: Global, entry: &Entry) -> Result<clap::Command<'a>, All
 fn command_of(name: &str, options: &ArgMatches<'_>) -> Result<Command, WordsCause>
     ensures ok { IfOk result (Mean name.now (said_in (rows_of (found_of options.now)))) }
     ensures err { IfErr result (λ cause. (cause ≡ WordsCause.Value)
-        × ((command : Command) → ¬ Mean name.now (said_in (rows_of (found_of options.now))) command)) }
+        × ((command : Command) →
+        ¬ Mean name.now (said_in (rows_of (found_of options.now))) command)) }
 {
     if name == "show" {
         let from = format_of(options.get_str("from"))?;
@@ -114,9 +117,11 @@ fn command_of(name: &str, options: &ArgMatches<'_>) -> Result<Command, WordsCaus
 
 /// The format that an option says, and FOLD where it isn't given.
 fn format_of(said: Option<&str>) -> Result<Format, WordsCause>
-    ensures ok { IfOk result (Says NamesFormat Format.Fold (option_map (λ text. text.now) said.entry)) }
+    ensures ok { IfOk result
+        (Says NamesFormat Format.Fold (option_map (λ text. text.now) said.entry)) }
     ensures err { IfErr result (λ cause. (cause ≡ WordsCause.Value)
-        × ((format : Format) → ¬ Says NamesFormat Format.Fold (option_map (λ text. text.now) said.entry) format)) }
+        × ((format : Format) →
+        ¬ Says NamesFormat Format.Fold (option_map (λ text. text.now) said.entry) format)) }
 {
     match said {
         None => Ok(Format::Fold),

@@ -1,11 +1,11 @@
-use Rattle.std.proofs.Common.{◌≡◌, ℕ, List, Err, ap, rules, subst, sym}
+use Rattle.std.proofs.Common.{◌≡◌, Err, ap, rules, subst, sym}
 use Rattle.std.proofs.lemmas.Result.{err_from_is_err_and}
 use Rattle.cp_lines.specs.Reads.{Reads}
 use Rattle.cp_lines.specs.CpText.{CpText}
 use Rattle.fold_program.specs.Status.{of_cp}
 use Rattle.fold_program.specs.Outcome.{IsReading, Spell}
 use Rattle.fold_program.specs.declared.input.Input.TheVariants as input
-use Rattle.fold_program.specs.declared.words.Format.TheVariants.{Fold, Cp}
+use Rattle.fold_program.specs.declared.words.Format.TheVariants.{Cp}
 use Rattle.fold_program.proofs.Reading.{unread_some, refused_cp}
 use Rattle.fold_program.proofs.input.read_input.Goals as goal
 

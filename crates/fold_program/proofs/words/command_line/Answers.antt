@@ -1,4 +1,4 @@
-use Rattle.std.proofs.Common.{◌∙◌, ap₂, rules, sym}
+use Rattle.std.proofs.Common.{◌∙◌, ap₂, sym}
 use Rattle.clap.specs.Words.{with_subcommand}
 use Rattle.fold_program.proofs.Meaning.{entries_more}
 use Rattle.fold_program.proofs.words.command_line.Goals as goal

@@ -1,4 +1,3 @@
-use Rattle.std.proofs.Common.{rules}
 use Rattle.std.proofs.lemmas.Result.{err_from_is_err_and}
 use Rattle.fold_program.specs.Words.{texts}
 use Rattle.fold_program.proofs.Meaning.{faults_at_ok, found_at_ok, refused}

@@ -1,5 +1,5 @@
 use Rattle.std.proofs.Common.{◌≡◌, ◌∙◌, ap, ap₂, rules, get_or, List, []}
-use Rattle.clap.specs.Words.{App, Rule, rule_of, with_rule}
+use Rattle.clap.specs.Words.{Rule, rule_of, with_rule}
 use Rattle.clap.specs.Simple.{new_shape}
 use Rattle.fold_program.specs.Words.{option_rule}
 use Rattle.fold_program.proofs.Meaning.{rules_more}
