@@ -1,0 +1,11 @@
+pub mod Along
+pub mod Yielded
+pub mod IdTexts
+pub mod Steps
+pub mod Spelled
+pub mod Sides
+pub mod Layers
+pub mod Entries
+pub mod OtherFrames
+pub mod Files
+pub mod Versions

@@ -1,0 +1,10 @@
+pub mod Table
+pub mod Along
+pub mod Elements
+pub mod Reading
+pub mod Spec
+pub mod Shape
+pub mod Trees
+pub mod Writable
+pub mod Found
+pub mod Frames
