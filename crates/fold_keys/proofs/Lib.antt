@@ -9,3 +9,4 @@ pub mod Entries
 pub mod OtherFrames
 pub mod Files
 pub mod Versions
+pub mod Readable

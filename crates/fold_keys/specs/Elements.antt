@@ -1,5 +1,4 @@
--- What an element of each kind of list is: as a test on a tree that names the cause where it fails, and as the tree of a
--- value.
+-- what an element of each kind of list is, as a test on a tree that names the cause where it fails
 use Rattle.std.specs.Prelude.{ℕ, ◌==◌, ◌||◌, ◌&&◌, ◌^◌, nat_lt, List, [], ◌∷◌, length, Bool, true, false, Option, Some, None, is_some, if◌then◌else◌, codes}
 use Rattle.std.specs.Fmt.{decimal}
 use Rattle.std.specs.List.{list_all, list_any}
@@ -35,7 +34,8 @@ is_truth tree = is_truth_layer (out-Json tree)
 
 -- the id that the text spells: a number below 2^32, in digits and in one way
 abbrev pub id_in_text : List ℕ → Option ℕ
-id_in_text text = let n = digits_value 10 text in if bytes_eq text (decimal n) && nat_lt n (2 ^ 32) then Some n else None
+id_in_text text = let n = digits_value 10 text in
+    if bytes_eq text (decimal n) && nat_lt n (2 ^ 32) then Some n else None
 
 abbrev pub id_in_layer : Json-F Json Member → Option ℕ
 id_in_layer (layers.Number text) = id_in_text text
@@ -52,7 +52,8 @@ abbrev pub misfit_of_members : (Json → Bool) → List Json → Option ShapeKin
 misfit_of_members passes members = if list_all passes members then None else Some NotKind
 
 abbrev pub misfit_of_inner : (ℕ → Bool) → (Json → Bool) → Json-F Json Member → Option ShapeKind
-misfit_of_inner allowed passes (layers.List members) = if allowed (length members) then misfit_of_members passes members else Some Length
+misfit_of_inner allowed passes (layers.List members) =
+    if allowed (length members) then misfit_of_members passes members else Some Length
 misfit_of_inner allowed passes layer = Some NotKind
 
 -- null, or what passes
@@ -94,14 +95,16 @@ misfit_of_letter tree = misfit_of_letter_layer (out-Json tree)
 
 -- an order of two faces: 2 ids and a side
 abbrev pub is_side : List ℕ → Bool
-is_side text = bytes_eq text (codes "1") || (bytes_eq text (codes "-1") || bytes_eq text (codes "0"))
+is_side text =
+    bytes_eq text (codes "1") || (bytes_eq text (codes "-1") || bytes_eq text (codes "0"))
 
 abbrev pub misfit_of_side_layer : Json-F Json Member → Option ShapeKind
 misfit_of_side_layer (layers.Number text) = if is_side text then None else Some Side
 misfit_of_side_layer layer = Some NotKind
 
 abbrev pub misfit_of_order_members : List Json → Option ShapeKind
-misfit_of_order_members (first ∷ second ∷ side ∷ []) = if is_id first && is_id second then misfit_of_side_layer (out-Json side) else Some NotKind
+misfit_of_order_members (first ∷ second ∷ side ∷ []) =
+    if is_id first && is_id second then misfit_of_side_layer (out-Json side) else Some NotKind
 misfit_of_order_members members = Some Length
 
 abbrev pub misfit_of_order_layer : Json-F Json Member → Option ShapeKind

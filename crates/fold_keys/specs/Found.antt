@@ -1,5 +1,5 @@
 -- what the readers of values, of entries and of frames answer
-use Rattle.std.specs.Prelude.{◌≡◌, ◌<◌, ◌≤◌, ◌^◌, ℕ, List, [], length, Option, Some, None, option_and_then, Result, Ok, Err, codes}
+use Rattle.std.specs.Prelude.{◌≡◌, ◌<◌, ◌≤◌, ◌^◌, List, length, Option, Some, None, option_and_then, Result, Ok, Err, codes}
 use Rattle.std.specs.List.{AllByRecursion}
 use Rattle.json_tree.specs.declared.tree.Json.{Json, Json-F, out-Json}
 use Rattle.json_tree.specs.declared.tree.Json.TheFolds.{every-Json}
@@ -16,7 +16,6 @@ use Rattle.fold_keys.specs.declared.kind.Kind.{Kind}
 use Rattle.fold_keys.specs.declared.kind.Kind.TheVariants as kinds
 use Rattle.fold_keys.specs.declared.reading.Found.{Found}
 use Rattle.fold_keys.specs.declared.reading.Found.TheVariants as found
-use Rattle.fold_keys.specs.declared.value.Value.{Value}
 
 -- the list, if it is one, has fewer elements than ids can count
 abbrev pub HasShortList : Json-F Json Member → Type 0
@@ -34,16 +33,19 @@ HasShortLists tree = every-Json HasShortList (λ m. Unit {0}) tree
 
 -- so has the number at the version of the file
 abbrev pub HasShortSpecLayer : Json-F Json Member → Type 0
-HasShortSpecLayer (layers.Object members) = AllByRecursion (λ m. m.key ≡ codes "file_spec" → HasShortNumber (out-Json m.value)) members
+HasShortSpecLayer (layers.Object members) =
+    AllByRecursion (λ m. m.key ≡ codes "file_spec" → HasShortNumber (out-Json m.value)) members
 HasShortSpecLayer layer = Unit {0}
 
 abbrev pub HasShortSpec : Json → Type 0
 HasShortSpec tree = HasShortSpecLayer (out-Json tree)
 
 -- it fits and its tree is the given one, or this is its first misfit
-abbrev pub AnswersTree : {T : Type 0} → (T → Json) → (Json → Option Misfit) → Json → Result T ListFault → Type 0
+abbrev pub AnswersTree : {T : Type 0} → (T → Json) → (Json → Option Misfit) → Json
+    → Result T ListFault → Type 0
 AnswersTree tree_of misfit tree (Ok x) = (tree_of x ≡ tree) × (misfit tree ≡ None)
-AnswersTree tree_of misfit tree (Err (list.Shape index cause)) = misfit tree ≡ Some (record { index = index; cause = cause })
+AnswersTree tree_of misfit tree (Err (list.Shape index cause)) =
+    misfit tree ≡ Some (record { index = index; cause = cause })
 AnswersTree tree_of misfit tree (Err (list.Memory e)) = Unit {0}
 
 -- a tree at a key that isn't read has no misfit
@@ -52,10 +54,13 @@ misfit_at_kind kind tree = option_and_then (λ k. misfit_of_value k tree) kind
 
 -- a value, whatever the other frames are, or the trees of the other frames
 abbrev pub IsFound : Option Kind → Json → Found → Type 0
-IsFound kind tree (found.Value value) = ((others : List Json) → tree_of_value others value ≡ tree) × IsOfKind kind value × ¬ (kind ≡ Some kinds.Frames)
+IsFound kind tree (found.Value value) =
+    ((others : List Json) → tree_of_value others value ≡ tree) × IsOfKind kind value
+    × ¬ (kind ≡ Some kinds.Frames)
 IsFound kind tree (found.Frames items) = (trees.List items ≡ tree) × (kind ≡ Some kinds.Frames)
 
 abbrev pub AnswersValue : Option Kind → Json → Result Found ListFault → Type 0
 AnswersValue kind tree (Ok what) = IsFound kind tree what × (misfit_at_kind kind tree ≡ None)
-AnswersValue kind tree (Err (list.Shape index cause)) = misfit_at_kind kind tree ≡ Some (record { index = index; cause = cause })
+AnswersValue kind tree (Err (list.Shape index cause)) =
+    misfit_at_kind kind tree ≡ Some (record { index = index; cause = cause })
 AnswersValue kind tree (Err (list.Memory e)) = Unit {0}

@@ -8,3 +8,4 @@ pub mod Trees
 pub mod Writable
 pub mod Found
 pub mod Frames
+pub mod FaultText

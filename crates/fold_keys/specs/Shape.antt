@@ -1,5 +1,6 @@
--- Where a file first isn't of FOLD's shape: along its frames, along the members of each, along the elements of each value.
-use Rattle.std.specs.Prelude.{ℕ, ◌==◌, List, [], ◌∷◌, Bool, true, false, Option, Some, None, option_map, option_and_then, if◌then◌else◌, codes}
+-- where a file first isn't of FOLD's shape: along its frames, along the members of each, along the
+-- elements of each value
+use Rattle.std.specs.Prelude.{ℕ, ◌==◌, List, [], ◌∷◌, Bool, Option, Some, None, option_map, option_and_then, if◌then◌else◌, codes}
 use Rattle.std.specs.Option.{unwrap_or}
 use Rattle.json_tree.specs.At.{value_of}
 use Rattle.json_tree.specs.declared.tree.Json.{Json, Json-F, out-Json}
@@ -62,7 +63,9 @@ abbrev pub kind_at : ℕ → List ℕ → Option Kind
 kind_at frame key = kind_by (frame == 0) key
 
 abbrev pub misfit_of_member : ℕ → Member → Option ShapeFault
-misfit_of_member frame m = option_map (λ misfit. record { frame = frame; key = m.key; index = misfit.index; cause = misfit.cause })
+misfit_of_member frame m =
+    option_map
+    (λ misfit. record { frame = frame; key = m.key; index = misfit.index; cause = misfit.cause })
     (option_and_then (λ kind. misfit_of_value kind m.value) (kind_at frame m.key))
 
 abbrev pub misfit_of_members : ℕ → List Member → Option ShapeFault
@@ -71,7 +74,8 @@ misfit_of_members frame members = first_along (λ place m. misfit_of_member fram
 -- the first misfit of a frame: no object, or along its members
 abbrev pub misfit_of_frame_layer : ℕ → Json-F Json Member → Option ShapeFault
 misfit_of_frame_layer frame (layers.Object members) = misfit_of_members frame members
-misfit_of_frame_layer frame layer = Some (record { frame = frame; key = []; index = 0; cause = causes.NotKind })
+misfit_of_frame_layer frame layer =
+    Some (record { frame = frame; key = []; index = 0; cause = causes.NotKind })
 
 abbrev pub misfit_of_frame : ℕ → Json → Option ShapeFault
 misfit_of_frame frame tree = misfit_of_frame_layer frame (out-Json tree)
@@ -82,7 +86,9 @@ items_of_layer (layers.List items) = Some items
 items_of_layer layer = None
 
 abbrev pub others_among : List Member → Option (List Json)
-others_among members = option_and_then (λ tree. items_of_layer (out-Json tree)) (value_of members (codes "file_frames"))
+others_among members =
+    option_and_then (λ tree. items_of_layer (out-Json tree))
+    (value_of members (codes "file_frames"))
 
 abbrev pub others_of_layer : Json-F Json Member → Option (List Json)
 others_of_layer (layers.Object members) = others_among members

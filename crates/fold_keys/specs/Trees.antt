@@ -55,7 +55,8 @@ tree_of_value others (values.Words words) = tree_of_all tree_of_word words
 tree_of_value others values.Frames = trees.List others
 tree_of_value others (values.Numbers texts) = tree_of_all (tree_or_null tree_of_number) texts
 tree_of_value others (values.Coords points) = tree_of_all (tree_of_all tree_of_number) points
-tree_of_value others (values.IdLists lists) = tree_of_all (tree_of_all (tree_or_null tree_of_id)) lists
+tree_of_value others (values.IdLists lists) =
+    tree_of_all (tree_of_all (tree_or_null tree_of_id)) lists
 tree_of_value others (values.Pairs pairs) = tree_of_all (tree_of_pair tree_of_id) pairs
 tree_of_value others (values.Letters letters) = tree_of_all tree_of_letter letters
 tree_of_value others (values.Orders orders) = tree_of_all tree_of_order orders

@@ -52,7 +52,8 @@ Fit (first ∷ others) = AllByRecursion (Fits true) first.entries × AllByRecurs
 abbrev pub HavePlace : List Frame → Type 0
 HavePlace [] = ⊥
 HavePlace (first ∷ []) = Unit {0}
-HavePlace (first ∷ second ∷ others) = Contains (map (λ e. e.key) first.entries) (codes "file_frames")
+HavePlace (first ∷ second ∷ others) =
+    Contains (map (λ e. e.key) first.entries) (codes "file_frames")
 
 -- the file has a tree that reads back
 pub record IsWritable (file : FoldFile) : Type 0 where

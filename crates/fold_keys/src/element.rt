@@ -119,7 +119,8 @@ pub fn copy_list<K: ElementKind>(
 {
     let mut made = List::with_room(alloc, elements.len())?;
     for element in elements.as_slice() {
-        made.push(K::copy(alloc, element)?).map_err(AllocError::from)?;
+        made.push(K::copy(alloc, element)?)
+            .map_err(AllocError::from)?;
     }
     Ok(made)
 }
@@ -188,13 +189,13 @@ impl ElementKind for Coords {
     ghost tree_of = { tree_of_all tree_of_number };
 
     fn read(alloc: Global, tree: Json) -> Result<List<NumberText>, ElementFault> {
-        let Json::List(members) = tree else {
+        let Json::List(numbers) = tree else {
             return Err(ElementFault::Shape(ShapeKind::NotKind));
         };
-        if members.len() != 2 && members.len() != 3 {
+        if numbers.len() != 2 && numbers.len() != 3 {
             return Err(ElementFault::Shape(ShapeKind::Length));
         }
-        read_members::<Numbers>(alloc, members)
+        read_members::<Numbers>(alloc, numbers)
     }
 
     fn write(alloc: Global, element: &List<NumberText>) -> Result<Json, AllocError> {
@@ -262,7 +263,8 @@ fn two_of(items: List<Json>) -> Option<(Json, Json)>
 
 fn read_pair<M: MemberKind>(first: Json, second: Json) -> Option<(M::Member, M::Member)>
     ensures { MatchOption result (list_all M.passes (first ∷ second ∷ []) ≡ false)
-        (λ pair. (tree_of_pair M.tree_of pair ≡ trees.List (first ∷ second ∷ [])) × (list_all M.passes (first ∷ second ∷ []) ≡ true)) }
+        (λ pair. (tree_of_pair M.tree_of pair ≡ trees.List (first ∷ second ∷ []))
+        × (list_all M.passes (first ∷ second ∷ []) ≡ true)) }
 {
     let first = M::read(first)?;
     let second = M::read(second)?;
@@ -297,7 +299,8 @@ impl ElementKind for Letters {
 
 /// The letter that the word is, if it is one.
 fn letter_of(word: &Text) -> Option<Letter>
-    ensures { MatchOption result (is_letter word.now ≡ false) (λ letter. (spelling letter ∷ [] ≡ word.now) × (is_letter word.now ≡ true)) }
+    ensures { MatchOption result (is_letter word.now ≡ false)
+        (λ letter. (spelling letter ∷ [] ≡ word.now) × (is_letter word.now ≡ true)) }
 {
     match word.bytes() {
         [byte] => Letter::from_spelling(*byte),
@@ -341,7 +344,7 @@ impl ElementKind for Orders {
 fn read_order(first: &Json, second: &Json, side: &Json) -> Result<FaceOrder, ShapeKind>
     ensures { MatchResult result
         (λ order. (tree_of_order order ≡ trees.List (first.now ∷ second.now ∷ side.now ∷ []))
-            × (misfit_of_order_members (first.now ∷ second.now ∷ side.now ∷ []) ≡ None))
+        × (misfit_of_order_members (first.now ∷ second.now ∷ side.now ∷ []) ≡ None))
         (λ cause. misfit_of_order_members (first.now ∷ second.now ∷ side.now ∷ []) ≡ Some cause) }
 {
     let first = id_in(first).ok_or(ShapeKind::NotKind)?;
@@ -367,7 +370,8 @@ fn read_side(tree: &Json) -> Result<i8, ShapeKind>
 
 /// The side that the text spells, if it is one of the three.
 fn side_in(text: &[u8]) -> Option<i8>
-    ensures { MatchOption result (is_side text.now ≡ false) (λ side. (signed_decimal side ≡ text.now) × (is_side text.now ≡ true)) }
+    ensures { MatchOption result (is_side text.now ≡ false)
+        (λ side. (signed_decimal side ≡ text.now) × (is_side text.now ≡ true)) }
 {
     if text == b"1".as_slice() {
         Some(1)

@@ -1,5 +1,9 @@
+ghost use Rattle.std.specs.Prelude.{◌≡◌};
+
 use fold_base::Text;
 use std::alloc::AllocError;
+use std::fmt;
+use thiserror::Error;
 
 /// Why a value isn't what its key asks for.
 #[derive(Clone, Copy, Debug, PartialEq, Eq)]
@@ -31,14 +35,18 @@ pub struct ShapeFault {
     pub cause: ShapeKind,
 }
 
-#[derive(Debug, PartialEq, Eq, Drop)]
+/// Why a tree is read as no file.
+#[derive(Debug, PartialEq, Eq, Drop, Error)]
 pub enum FoldFault {
+    /// The tree isn't of FOLD's shape.
+    #[error(transparent)]
     Shape(ShapeFault),
+    /// Memory was refused, and nothing is known of the tree.
+    #[error(transparent)]
     Memory(AllocError),
 }
 
 impl From<AllocError> for FoldFault {
-    ghost use Rattle.std.specs.Prelude.{◌≡◌};
     ghost use Rattle.fold_keys.specs.declared.fault.FoldFault.TheVariants.{Memory};
 
     ghost from_gives = { λ e f. f ≡ Memory e };
@@ -47,3 +55,42 @@ impl From<AllocError> for FoldFault {
         FoldFault::Memory(error)
     }
 }
+
+impl fmt::Display for ShapeKind {
+    ghost use Rattle.std.specs.Prelude.{Some};
+    ghost use Rattle.fold_keys.specs.FaultText.{cause_words};
+
+    ghost output = { λ cause. Some (cause_words cause) };
+
+    fn fmt<W: fmt::Write>(&self, f: &mut fmt::Formatter<W>) -> fmt::Result {
+        f.write_str(match self {
+            ShapeKind::NotKind => "not kind",
+            ShapeKind::Length => "length",
+            ShapeKind::Spec => "spec",
+            ShapeKind::Letter => "letter",
+            ShapeKind::Side => "side",
+            ShapeKind::Uneven => "uneven",
+            ShapeKind::IdRange => "id range",
+        })
+    }
+}
+
+/// An empty key is shown as nothing, so two blanks stand after the word `key`.
+impl fmt::Display for ShapeFault {
+    ghost use Rattle.std.specs.Prelude.{Some};
+    ghost use Rattle.fold_keys.specs.FaultText.{fault_text};
+
+    ghost output = { λ fault. Some (fault_text fault) };
+
+    fn fmt<W: fmt::Write>(&self, f: &mut fmt::Formatter<W>) -> fmt::Result {
+        let ShapeFault {
+            frame,
+            key,
+            index,
+            cause,
+        } = self;
+        write!(f, "frame {frame} key {key} index {index}: {cause}")
+    }
+}
+
+impl std::error::Error for ShapeFault {}

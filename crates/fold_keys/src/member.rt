@@ -24,7 +24,8 @@ pub trait MemberKind {
 
     /// What the tree is, if it is of this kind. Its text is moved.
     fn read(tree: Json) -> Option<Self::Member>
-        ensures { MatchOption result (passes tree ≡ false) (λ read. (tree_of read ≡ tree) × (passes tree ≡ true)) };
+        ensures { MatchOption result (passes tree ≡ false)
+            (λ read. (tree_of read ≡ tree) × (passes tree ≡ true)) };
 
     /// Its tree again.
     fn write(alloc: Global, member: &Self::Member) -> Result<Json, AllocError>
@@ -189,7 +190,8 @@ pub fn id_in(tree: &Json) -> Option<u32>
     }
 }
 
-// A number's text has no plus and no leading zeros, so what is read as a whole number is spelled in its one way.
+// A number's text has no plus and no leading zeros, so what is read as a whole number is spelled in
+// its one way.
 fn id_in_text(text: &NumberText) -> Option<u32>
     ensures id { result ≡ id_in_text text.now }
     ensures spelled { IfSome result (λ id. decimal id ≡ text.now) }
@@ -236,7 +238,8 @@ pub fn copy_members<M: MemberKind>(
 {
     let mut made = List::with_room(alloc, members.len())?;
     for member in members {
-        made.push(M::copy(alloc, member)?).map_err(AllocError::from)?;
+        made.push(M::copy(alloc, member)?)
+            .map_err(AllocError::from)?;
     }
     Ok(made)
 }

@@ -8,7 +8,9 @@ ghost use Rattle.fold_keys.specs.Shape.{of_one, of_list, of_spec};
 ghost use Rattle.fold_keys.specs.Trees.{tree_of_number, tree_of_truth, tree_of_all};
 ghost use Rattle.fold_keys.specs.Found.{AnswersTree, AnswersValue, HasShortList, HasShortNumber};
 
-use crate::element::{Coords, ElementKind, Inner, Letters, ListFault, Orders, PairOf, Plain, read_list};
+use crate::element::{
+    Coords, ElementKind, Inner, Letters, ListFault, Orders, PairOf, Plain, read_list,
+};
 use crate::fault::ShapeKind;
 use crate::kind::Kind;
 use crate::member::{Ids, MemberKind, Numbers, OrNull, Present, Words};
@@ -39,14 +41,28 @@ pub fn read_value(alloc: Global, kind: Option<Kind>, tree: Json) -> Result<Found
         Some(Kind::Word) => Ok(Found::Value(Value::Word(read_one::<Words>(tree)?))),
         Some(Kind::Id) => Ok(Found::Value(Value::Id(read_one::<Ids>(tree)?))),
         Some(Kind::Truth) => Ok(Found::Value(Value::Truth(read_truth(tree)?))),
-        Some(Kind::Words) => Ok(Found::Value(Value::Words(read_items::<Plain<Words>>(alloc, tree)?))),
+        Some(Kind::Words) => Ok(Found::Value(Value::Words(read_items::<Plain<Words>>(
+            alloc, tree,
+        )?))),
         Some(Kind::Coords) => Ok(Found::Value(Value::Coords(read_items::<Coords>(alloc, tree)?))),
-        Some(Kind::Exact) => Ok(Found::Value(Value::Exact(read_items::<PairOf<Words>>(alloc, tree)?))),
-        Some(Kind::IdLists(_)) => Ok(Found::Value(Value::IdLists(read_items::<Inner<Present<Ids>>>(alloc, tree)?))),
-        Some(Kind::FaceLists) => Ok(Found::Value(Value::IdLists(read_items::<Inner<OrNull<Ids>>>(alloc, tree)?))),
-        Some(Kind::Pairs) => Ok(Found::Value(Value::Pairs(read_items::<PairOf<Ids>>(alloc, tree)?))),
-        Some(Kind::Letters) => Ok(Found::Value(Value::Letters(read_items::<Letters>(alloc, tree)?))),
-        Some(Kind::Numbers) => Ok(Found::Value(Value::Numbers(read_items::<Plain<OrNull<Numbers>>>(alloc, tree)?))),
+        Some(Kind::Exact) => Ok(Found::Value(Value::Exact(read_items::<PairOf<Words>>(
+            alloc, tree,
+        )?))),
+        Some(Kind::IdLists(_)) => Ok(Found::Value(Value::IdLists(read_items::<Inner<Present<Ids>>>(
+            alloc, tree,
+        )?))),
+        Some(Kind::FaceLists) => Ok(Found::Value(Value::IdLists(read_items::<Inner<OrNull<Ids>>>(
+            alloc, tree,
+        )?))),
+        Some(Kind::Pairs) => Ok(Found::Value(Value::Pairs(read_items::<PairOf<Ids>>(
+            alloc, tree,
+        )?))),
+        Some(Kind::Letters) => Ok(Found::Value(Value::Letters(read_items::<Letters>(
+            alloc, tree,
+        )?))),
+        Some(Kind::Numbers) => Ok(Found::Value(Value::Numbers(read_items::<Plain<OrNull<Numbers>>>(
+            alloc, tree,
+        )?))),
         Some(Kind::Orders) => Ok(Found::Value(Value::Orders(read_items::<Orders>(alloc, tree)?))),
     }
 }
@@ -102,7 +118,8 @@ fn read_spec(tree: Json) -> Result<NumberText, ListFault>
     }
 }
 
-/// Whether the number is above the last version that is read, 1.2, when it is rounded to 18 decimals.
+/// Whether the number is above the last version that is read, 1.2, when it is rounded to 18
+/// decimals.
 fn is_above_spec(text: &NumberText) -> bool
     requires { length text.now ≤ 16777216 }
     ensures { result ≡ spec.is_above_spec text.now }

@@ -20,7 +20,9 @@ pub fn copy_value(alloc: Global, value: &Value) -> Result<Value, AllocError>
         Value::Id(id) => Ok(Value::Id(*id)),
         Value::Frames => Ok(Value::Frames),
         Value::Words(words) => Ok(Value::Words(copy_list::<Plain<Words>>(alloc, words)?)),
-        Value::Numbers(texts) => Ok(Value::Numbers(copy_list::<Plain<OrNull<Numbers>>>(alloc, texts)?)),
+        Value::Numbers(texts) => Ok(Value::Numbers(copy_list::<Plain<OrNull<Numbers>>>(
+            alloc, texts,
+        )?)),
         Value::Coords(points) => Ok(Value::Coords(copy_list::<Coords>(alloc, points)?)),
         Value::IdLists(lists) => Ok(Value::IdLists(copy_list::<Inner<OrNull<Ids>>>(alloc, lists)?)),
         Value::Pairs(pairs) => Ok(Value::Pairs(copy_list::<PairOf<Ids>>(alloc, pairs)?)),
@@ -105,7 +107,8 @@ fn write_entry(alloc: Global, entry: &Entry, others: &[Frame]) -> Result<Member,
 }
 
 fn write_first(alloc: Global, frame: &Frame, others: &[Frame]) -> Result<Json, AllocError>
-    ensures { IfOk result (λ tree. tree ≡ tree_of_frame (map (tree_of_frame []) others.now) frame.now) }
+    ensures { IfOk result
+        (λ tree. tree ≡ tree_of_frame (map (tree_of_frame []) others.now) frame.now) }
 {
     let entries = frame.entries.as_slice();
     let mut members = List::with_room(alloc, entries.len())?;

@@ -1,4 +1,4 @@
-use Rattle.std.proofs.Common.{◌≡◌, rules, subst, sym, arith, string_bytes}
+use Rattle.std.proofs.Common.{◌≡◌, rules, subst, sym, arith}
 use Rattle.std.specs.Fmt.{decimal}
 use Rattle.json_tree.specs.Number.{IsNumber}
 use Rattle.fold_keys.proofs.Spelled.{id_is_number}

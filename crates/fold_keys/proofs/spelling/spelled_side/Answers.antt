@@ -1,4 +1,4 @@
-use Rattle.std.proofs.Common.{◌≡◌, rules, subst, sym, string_bytes}
+use Rattle.std.proofs.Common.{◌≡◌, rules, subst, sym}
 use Rattle.std.specs.Fmt.{signed_decimal}
 use Rattle.json_tree.specs.Number.{IsNumber}
 use Rattle.fold_keys.proofs.Spelled.{side_is_number}
