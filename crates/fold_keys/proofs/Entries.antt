@@ -37,7 +37,7 @@ use Rattle.fold_keys.specs.declared.kind.Kind.TheVariants as kinds
 pub key_same : (a b : List ℕ) → bytes_eq a b ≡ true → a ≡ b
 key_same a b e = (bytes_eq-Decides a b).0 e
 
-same_key : (a b : List ℕ) → a ≡ b → bytes_eq a b ≡ true
+pub same_key : (a b : List ℕ) → a ≡ b → bytes_eq a b ≡ true
 same_key a b e = (bytes_eq-Decides a b).1 e
 
 pub value_head : (x : Member) (xs : List Member) (key : List ℕ) → bytes_eq x.key key ≡ true
@@ -177,7 +177,7 @@ same_others true members m other = at (bytes_eq m.key (codes "file_frames")) ref
         ap (option_and_then (λ tree. items_of_layer (out-Json tree)))
         (value_before members m (codes "file_frames") e)
 
-items_of-List : (items : List Json) → items_of_layer (out-Json (trees.List items)) ≡ Some items
+pub items_of-List : (items : List Json) → items_of_layer (out-Json (trees.List items)) ≡ Some items
 items_of-List items =
     ap (λ t. items_of_layer (out-Json t)) (sym (trees.rolls-List items))
     ∙ ap items_of_layer (out-roll-Json (layers.List items))

@@ -15,7 +15,7 @@ use Rattle.json_tree.specs.declared.tree.Json.TheViews as trees
 use Rattle.json_tree.specs.declared.tree.Member.{Member}
 use Rattle.json_tree.proofs.Trees.{every_items, every_members, every_value, every_length}
 use Rattle.fold_keys.specs.Along.{first_along, or_else}
-use Rattle.fold_keys.specs.Found.{HasShortList, HasShortLists, HasShortNumber, HasShortSpec, HasShortSpecLayer}
+use Rattle.fold_keys.specs.Short.{HasShortList, HasShortLists, HasShortNumber, HasShortSpec, HasShortSpecLayer}
 use Rattle.fold_keys.specs.Frames.{HasTree, IsFrameOf, AreOthersOf, AnswersOthers, AnswersFile, IsReadable, IsReadableLayer, IsReadableMember}
 use Rattle.fold_keys.specs.Shape.{items_of_layer, others_among, others_of_layer, other_frames, misfit_of_frame}
 use Rattle.fold_keys.specs.Trees.{member_of, tree_of_frame, tree_of_file}
@@ -224,27 +224,34 @@ place tree first aside o (second ∷ others) is e t has =
     map-map [] = refl
     map-map (x ∷ xs) = ap (λ ks. x.key ∷ ks) (map-map xs)
 
-whole : (tree : Json) (first : Frame) (rest : List Frame) (others : List Json) → IsProper tree
+whole : (tree : Json) (first : Frame) (rest : List Frame) (others : List Json)
+    → IsProper tree → HasShortLists tree → HasShortSpec tree
     → tree_of_frame others first ≡ tree → AllByRecursion (Fits true) first.entries
     → AreOthersOf others rest
     → HavePlace (first ∷ rest) → misfit_of_frame 0 tree ≡ None
     → first_along misfit_of_frame 1 others ≡ None → others ≡ other_frames tree
     → AnswersFile tree (Ok (record { frames = first ∷ rest }))
-whole tree first rest others proper t fit are here none later same =
+whole tree first rest others proper short version t fit are here none later same =
     let made : tree_of_file (record { frames = first ∷ rest }) ≡ tree =
     ap (λ os. tree_of_frame os first) are.have ∙ t in (
       made,
-      record { fit = (fit, are.fit); place = here; proper = subst IsProper (sym made) proper },
+      record {
+        fit = (fit, are.fit);
+        place = here;
+        proper = subst IsProper (sym made) proper;
+        lists = subst HasShortLists (sym made) short;
+        version = subst HasShortSpec (sym made) version;
+      },
       ap (λ r. or_else r (first_along misfit_of_frame 1 (other_frames tree))) none
           ∙ ap (first_along misfit_of_frame 1) (sym same) ∙ later,
     )
 
 pub file_whole : (tree : Json) (first : Frame) (aside : Option (List Json)) (frames : List Frame)
-    → IsProper tree → HasShortLists tree → IsFrameOf 0 tree first aside
+    → IsProper tree → HasShortLists tree → HasShortSpec tree → IsFrameOf 0 tree first aside
     → misfit_of_frame 0 tree ≡ None
     → AnswersOthers first (unwrap_or aside []) (Ok frames)
     → AnswersFile tree (Ok (record { frames = frames }))
-file_whole tree first aside frames proper short is none read = at aside refl
+file_whole tree first aside frames proper short version is none read = at aside refl
   where
     at : (o : Option (List Json)) → aside ≡ o → AnswersFile tree (Ok (record { frames = frames }))
     at None e =
@@ -254,7 +261,7 @@ file_whole tree first aside frames proper short is none read = at aside refl
         let same : [] ≡ other_frames tree = ap (λ a. unwrap_or a []) (sym e ∙ is.aside) in
         let nothing : others.0 ≡ [] = no_frames others.0 others.2.have in
         let answer =
-        whole tree first others.0 [] proper (has []) is.fit others.2
+        whole tree first others.0 [] proper short version (has []) is.fit others.2
         (subst (λ fs. HavePlace (first ∷ fs)) (sym nothing) tt) none others.3 same in
         subst (λ fs. AnswersFile tree (Ok (record { frames = fs }))) (sym others.1) answer
     at (Some o) e =
@@ -265,7 +272,7 @@ file_whole tree first aside frames proper short is none read = at aside refl
         let its = others_of tree o (record { distinct = proper.distinct; short = short })
         (sym is.aside ∙ e) in
         let answer =
-        whole tree first others.0 o proper has is.fit others.2
+        whole tree first others.0 o proper short version has is.fit others.2
         (place tree first aside o others.0 is e has its) none others.3 same in
         subst (λ fs. AnswersFile tree (Ok (record { frames = fs }))) (sym others.1) answer
 

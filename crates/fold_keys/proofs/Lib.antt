@@ -10,3 +10,6 @@ pub mod OtherFrames
 pub mod Files
 pub mod Versions
 pub mod Readable
+pub mod Decimals
+pub mod OneValue
+pub mod Written

@@ -9,7 +9,7 @@ use Rattle.json_tree.specs.declared.tree.Json.TheOpen as layers
 use Rattle.json_tree.specs.declared.tree.Json.TheViews as trees
 use Rattle.json_tree.specs.declared.tree.Member.{Member}
 use Rattle.json_tree.proofs.Trees.{every_items, every_members, every_value, every_length, every-Null, every-Truth, every-Number, every-Word, every-List, every-Object, every_member}
-use Rattle.fold_keys.specs.Found.{HasShortList, HasShortLists, HasShortNumber, HasShortSpec, HasShortSpecLayer}
+use Rattle.fold_keys.specs.Short.{HasShortList, HasShortLists, HasShortNumber, HasShortSpec, HasShortSpecLayer}
 use Rattle.fold_keys.proofs.Files.{is_object}
 
 -- nothing is longer than `most`, which is no longer than a text that is read

@@ -1,11 +1,7 @@
 -- what the readers of values, of entries and of frames answer
-use Rattle.std.specs.Prelude.{◌≡◌, ◌<◌, ◌≤◌, ◌^◌, List, length, Option, Some, None, option_and_then, Result, Ok, Err, codes}
-use Rattle.std.specs.List.{AllByRecursion}
-use Rattle.json_tree.specs.declared.tree.Json.{Json, Json-F, out-Json}
-use Rattle.json_tree.specs.declared.tree.Json.TheFolds.{every-Json}
-use Rattle.json_tree.specs.declared.tree.Json.TheOpen as layers
+use Rattle.std.specs.Prelude.{◌≡◌, List, Option, Some, None, option_and_then, Result, Ok, Err}
+use Rattle.json_tree.specs.declared.tree.Json.{Json}
 use Rattle.json_tree.specs.declared.tree.Json.TheViews as trees
-use Rattle.json_tree.specs.declared.tree.Member.{Member}
 use Rattle.fold_keys.specs.Reading.{Misfit}
 use Rattle.fold_keys.specs.Shape.{misfit_of_value}
 use Rattle.fold_keys.specs.Trees.{tree_of_value}
@@ -16,29 +12,6 @@ use Rattle.fold_keys.specs.declared.kind.Kind.{Kind}
 use Rattle.fold_keys.specs.declared.kind.Kind.TheVariants as kinds
 use Rattle.fold_keys.specs.declared.reading.Found.{Found}
 use Rattle.fold_keys.specs.declared.reading.Found.TheVariants as found
-
--- the list, if it is one, has fewer elements than ids can count
-abbrev pub HasShortList : Json-F Json Member → Type 0
-HasShortList (layers.List items) = length items < 2 ^ 32
-HasShortList layer = Unit {0}
-
--- the number, if it is one, has a text that can be read by its value
-abbrev pub HasShortNumber : Json-F Json Member → Type 0
-HasShortNumber (layers.Number text) = length text ≤ 16777216
-HasShortNumber layer = Unit {0}
-
--- so has every list in the tree
-abbrev pub HasShortLists : Json → Type 0
-HasShortLists tree = every-Json HasShortList (λ m. Unit {0}) tree
-
--- so has the number at the version of the file
-abbrev pub HasShortSpecLayer : Json-F Json Member → Type 0
-HasShortSpecLayer (layers.Object members) =
-    AllByRecursion (λ m. m.key ≡ codes "file_spec" → HasShortNumber (out-Json m.value)) members
-HasShortSpecLayer layer = Unit {0}
-
-abbrev pub HasShortSpec : Json → Type 0
-HasShortSpec tree = HasShortSpecLayer (out-Json tree)
 
 -- it fits and its tree is the given one, or this is its first misfit
 abbrev pub AnswersTree : {T : Type 0} → (T → Json) → (Json → Option Misfit) → Json

@@ -6,7 +6,8 @@ use Rattle.json_tree.specs.declared.tree.Json.{Json, Json-F, out-Json}
 use Rattle.json_tree.specs.declared.tree.Json.TheOpen as layers
 use Rattle.json_tree.specs.declared.tree.Member.{Member}
 use Rattle.fold_keys.specs.Along.{first_along}
-use Rattle.fold_keys.specs.Found.{IsFound, HasShortList, HasShortNumber}
+use Rattle.fold_keys.specs.Found.{IsFound}
+use Rattle.fold_keys.specs.Short.{HasShortList, HasShortNumber}
 use Rattle.fold_keys.specs.Shape.{kind_at, others_among, others_of_layer, misfit_of_member, misfit_of_members, misfit_of_frame, misfit_of_file}
 use Rattle.fold_keys.specs.Trees.{member_of, tree_of_frame, tree_of_file}
 use Rattle.fold_keys.specs.Writable.{Fits, FitsOther, IsWritable}
@@ -101,6 +102,12 @@ AnswersFile tree (Ok file) =
     (tree_of_file file ≡ tree) × IsWritable file × (misfit_of_file tree ≡ None)
 AnswersFile tree (Err (faults.Shape fault)) = misfit_of_file tree ≡ Some fault
 AnswersFile tree (Err (faults.Memory e)) = Unit {0}
+
+-- memory was wanting
+abbrev pub LacksMemory : Result FoldFile FoldFault → Type 0
+LacksMemory (Err (faults.Memory e)) = Unit {0}
+LacksMemory (Err (faults.Shape fault)) = ⊥
+LacksMemory (Ok file) = ⊥
 
 -- what is asked of a member of a frame, and of the tree of a frame
 pub record IsReadableMember (number : ℕ) (member : Member) : Type 0 where

@@ -5,6 +5,7 @@ pub mod Reading
 pub mod Spec
 pub mod Shape
 pub mod Trees
+pub mod Short
 pub mod Writable
 pub mod Found
 pub mod Frames

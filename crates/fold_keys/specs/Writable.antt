@@ -4,6 +4,7 @@ use Rattle.std.specs.List.{AllByRecursion}
 use Rattle.json_tree.specs.Tree.{IsProper}
 use Rattle.json_tree.specs.declared.tree.Json.{Json}
 use Rattle.fold_keys.specs.Shape.{misfit_of_value, kind_by}
+use Rattle.fold_keys.specs.Short.{HasShortLists, HasShortSpec}
 use Rattle.fold_keys.specs.Trees.{tree_of_value, tree_of_file}
 use Rattle.fold_keys.specs.declared.kind.Kind.{Kind}
 use Rattle.fold_keys.specs.declared.kind.Kind.TheVariants as kinds
@@ -60,3 +61,5 @@ pub record IsWritable (file : FoldFile) : Type 0 where
   pub fit : Fit file.frames
   pub place : HavePlace file.frames
   pub proper : IsProper (tree_of_file file)
+  pub lists : HasShortLists (tree_of_file file)
+  pub version : HasShortSpec (tree_of_file file)

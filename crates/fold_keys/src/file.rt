@@ -1,9 +1,12 @@
-ghost use Rattle.std.specs.Prelude.{◌≡◌, ◌<◌, ◌^◌, length};
+ghost use Rattle.std.specs.Prelude.{◌≡◌, ◌<◌, ◌^◌, ◌⊎◌, Ok, length};
 ghost use Rattle.std.specs.List.{AllByRecursion};
 ghost use Rattle.json_tree.specs.Tree.{keys, AreDistinct, IsProper};
 ghost use Rattle.fold_keys.specs.Shape.{kind_at};
-ghost use Rattle.fold_keys.specs.Found.{HasShortLists, HasShortSpec};
-ghost use Rattle.fold_keys.specs.Frames.{AnswersEntry, AnswersEntries, AnswersFrame, AnswersOthers, AnswersFile, IsReadable, IsReadableMember, IsNoObject};
+ghost use Rattle.fold_keys.specs.Short.{HasShortLists, HasShortSpec};
+ghost use Rattle.fold_keys.specs.Frames.{AnswersEntry, AnswersEntries, AnswersFrame, AnswersOthers, AnswersFile, IsReadable, IsReadableMember, IsNoObject, LacksMemory};
+ghost use Rattle.fold_keys.specs.Trees.{tree_of_file};
+ghost use Rattle.fold_keys.specs.Writable.{IsWritable};
+ghost use Rattle.fold_keys.specs.declared.value.FoldFile.{FoldFile as File};
 
 use crate::element::ListFault;
 use crate::fault::{FoldFault, ShapeFault, ShapeKind};
@@ -120,11 +123,8 @@ fn read_others(alloc: Global, first: Frame, trees: List<Json>) -> Result<List<Fr
     Ok(frames)
 }
 
-/// The file that the tree is, or its first misfit: along the frames, and in each along its keys.
-///
-/// The first frame is the tree itself, without the other frames, and those are the elements of its
-/// list `file_frames`. The tree is taken apart, and its texts are moved.
-pub fn from_json(alloc: Global, tree: Json) -> Result<FoldFile, FoldFault>
+/// The file that the tree is, or its first misfit.
+fn read_file(alloc: Global, tree: Json) -> Result<FoldFile, FoldFault>
     requires proper { IsProper tree }
     requires lists { HasShortLists tree }
     requires version { HasShortSpec tree }
@@ -136,4 +136,20 @@ pub fn from_json(alloc: Global, tree: Json) -> Result<FoldFile, FoldFault>
         None => read_others(alloc, first, List::new(alloc))?,
     };
     Ok(FoldFile { frames })
+}
+
+/// The file that the tree is, or its first misfit: along the frames, and in each along its keys.
+///
+/// The first frame is the tree itself, without the other frames, and those are the elements of its
+/// list `file_frames`. The tree is taken apart, and its texts are moved.
+pub fn from_json(alloc: Global, tree: Json) -> Result<FoldFile, FoldFault>
+    requires proper { IsProper tree }
+    requires lists { HasShortLists tree }
+    requires version { HasShortSpec tree }
+    ensures answer { AnswersFile tree result }
+
+    // Where a writable file has the tree, that file is read.
+    ensures written { (file : File) → IsWritable file → tree_of_file file ≡ tree → (result ≡ Ok file) ⊎ LacksMemory result }
+{
+    read_file(alloc, tree)
 }

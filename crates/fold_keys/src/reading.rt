@@ -6,7 +6,8 @@ ghost use Rattle.json_tree.specs.declared.tree.Json.TheViews as trees;
 ghost use Rattle.fold_keys.specs.Elements.{is_truth};
 ghost use Rattle.fold_keys.specs.Shape.{of_one, of_list, of_spec};
 ghost use Rattle.fold_keys.specs.Trees.{tree_of_number, tree_of_truth, tree_of_all};
-ghost use Rattle.fold_keys.specs.Found.{AnswersTree, AnswersValue, HasShortList, HasShortNumber};
+ghost use Rattle.fold_keys.specs.Found.{AnswersTree, AnswersValue};
+ghost use Rattle.fold_keys.specs.Short.{HasShortList, HasShortNumber};
 
 use crate::element::{
     Coords, ElementKind, Inner, Letters, ListFault, Orders, PairOf, Plain, read_list,
