@@ -1,0 +1,145 @@
+-- The faces are the bounded regions, in the words of drawings.
+use Prim.Native.Nat.{ℕ}
+use mathlib.Core.Path.{◌≡◌, sym, subst}
+use mathlib.Core.List.{List, [], ◌∷◌}
+use mathlib.Core.Logic.{inl, inr}
+use Rattle.std.specs.Prelude.{Contains, length, ◌<◌}
+use Rattle.algebra.specs.OrderedRing.{OrderedRing}
+use Rattle.plane.specs.declared.point.Point.{Point}
+use Rattle.plane.specs.Points.{IsPoint}
+use Rattle.scaled_plane.specs.declared.drawing.Edge.{Edge}
+use Rattle.scaled_plane.specs.Lists.{IsReached, begun, gone_on}
+use Rattle.scaled_plane.specs.Regions.{AreInOneRegion, HasAtLeft, IsBounded as IsBoxed, IsOff as IsOffAll, SeesPiece}
+use Rattle.scaled_plane.specs.Walks.{AreJoined, FollowRound, IsDirectedPiece, IsFaceWalk, IsOuterWalk, IsWalk, pieces_round}
+use Rattle.regions.specs.Faces.{IsPlane as IsPlaneDrawing, IsConnected as IsJoinedDrawing, IsOfWalk, WalkHasAtLeft, WalksHaveRegions as RegionsOfWalks, FacesAreBounded as BoundedFaces}
+use Rattle.regions.proofs.Drawings.{Piece, piece, Among, IsDirected, IsVertex, IsPlane, IsConnected, Route, arrived, via}
+use Rattle.regions.proofs.Regions.{LeftOf, OneRegion, IsBounded}
+use Rattle.regions.proofs.Walks.{OneWalk, same}
+use Rattle.regions.proofs.Directions.{directed_back}
+use Rattle.regions.proofs.Tracing.{region_then, region_back}
+use Rattle.regions.proofs.Statements.{WalksHaveRegions, FacesAreBounded, IsOuter}
+use Rattle.regions.proofs.Faces.{walks_have_regions, faces_are_bounded}
+use Rattle.regions.proofs.Pieces.{place, ps, piece_of, pieces_of, among_pieces, directed, directed_piece, off_pieces, region_of, region_on, bounded_of, bounded_on, left_of, sees_of, is_plane}
+use Rattle.regions.proofs.Rounds.{linked_back, all_linked, all_directed, walk_holds}
+use Rattle.regions.proofs.Outer.{in_range, outer_piece}
+
+-- ---- routes
+
+route_then : {pieces : List Piece} {u v w : ℕ} → Route pieces u v → Route pieces v w → Route pieces u w
+route_then arrived k = k
+route_then (via s r) k = via s (route_then r k)
+
+route_back : {pieces : List Piece} {u v : ℕ} → Route pieces u v → Route pieces v u
+route_back arrived = arrived
+route_back {pieces} (via {u} {v} s r) = route_then (route_back r) (via (directed_back pieces (piece u v) s) arrived)
+
+route_of : (es : List Edge) (u : ℕ) {v : ℕ} → IsReached (IsDirectedPiece es) u v → Route (pieces_of es) u v
+route_of es u begun = arrived
+route_of es u (gone_on {v} w r s) = route_then (route_of es u r) (via (directed es w v s) arrived)
+
+module _ {A : Type 0} (K : OrderedRing A) (vertices : List (Point A)) (edges : List Edge) (h : IsPlaneDrawing K vertices edges) where
+  abbrev at : ℕ → Point A
+  at v = place K vertices edges v
+
+  abbrev all : List Piece
+  all = ps K vertices edges
+
+  plane : IsPlane K at all
+  plane = is_plane K vertices edges h
+
+  -- edges between joined vertices
+  connected : IsJoinedDrawing K vertices edges → IsConnected all
+  connected joined u v hu hv =
+      route_then (route_back (route_of edges 0 (joined u (in_range K vertices edges h u hu.0 (directed_piece edges u hu.0 hu.1)))))
+      (route_of edges 0 (joined v (in_range K vertices edges h v hv.0 (directed_piece edges v hv.0 hv.1))))
+
+  of_edge : (e : Edge) → Contains edges e → Among all (piece_of e)
+  of_edge e i = among_pieces edges e i
+
+  module _ (e : Edge) (here : Contains edges e) where
+    inner : WalksHaveRegions K at all
+    inner = walks_have_regions K at all plane (piece_of e) (of_edge e here)
+
+    -- two points that see pieces of one walk
+    seen_together : (corners : List ℕ) → IsWalk K vertices edges corners → (u v x y : ℕ) → IsOfWalk corners u v → IsOfWalk corners x y
+        → (p q : Point A) → SeesPiece K vertices edges u v p → SeesPiece K vertices edges x y q → OneRegion K at all p q
+    seen_together corners w u v x y i j p q sp sq =
+        inner.one_region (piece u v) (piece x y) (all_directed K vertices edges h (pieces_round corners) w.follow (u, v) i)
+        (all_linked K vertices edges h (pieces_round corners) w.follow (u, v) (x, y) i j)
+        p q (left_of K vertices edges u v p sp) (left_of K vertices edges x y q sq)
+
+    one_region : (corners : List ℕ) → IsWalk K vertices edges corners → (p q : Point A)
+        → WalkHasAtLeft K vertices edges corners p → WalkHasAtLeft K vertices edges corners q → OneRegion K at all p q
+    one_region corners w p q l k =
+        region_then K at all (region_back K at all (region_of K vertices edges l.3.2))
+        (region_then K at all (seen_together corners w l.0 l.1 k.0 k.1 l.2 k.2 l.3.0 k.3.0 l.3.1 k.3.1) (region_of K vertices edges k.3.2))
+
+    pub regions_of_walks : RegionsOfWalks K vertices edges
+    regions_of_walks = record {
+      seen = λ u v d.
+          let r : (p : Point A) × LeftOf K at all (piece u v) p = inner.some_left (piece u v) (directed edges u v d) in
+          (r.0, sees_of K vertices edges u v r.0 r.1);
+      one_region = λ corners w p q l k. region_on K vertices edges (one_region corners w p q l k);
+      no_region_missed = λ p hp off.
+          let r : (d : Piece) × IsDirected all d × ((q : Point A) × LeftOf K at all d q × OneRegion K at all p q)
+          = inner.every_region p hp (off_pieces K vertices edges p off) in (
+            r.0.tail,
+            r.0.head,
+            directed_piece edges r.0.tail r.0.head r.1,
+            (r.2.0, sees_of K vertices edges r.0.tail r.0.head r.2.0 r.2.1, region_on K vertices edges (region_back K at all r.2.2)),
+          );
+    }
+
+    module _ (joined : IsJoinedDrawing K vertices edges) where
+      faces : FacesAreBounded K at all
+      faces = faces_are_bounded K at all plane (piece_of e) (of_edge e here) (connected joined)
+
+      -- a bounded region is so at each of its points
+      bounded_too : {p q : Point A} → OneRegion K at all p q → IsBounded K at all p → IsBounded K at all q
+      bounded_too one b = (b.0, b.1, b.2, λ r k. b.3 r (region_then K at all one k))
+
+      -- two pieces with one region are of one walk
+      linked : (u v x y : ℕ) → IsDirected all (piece u v) → IsDirected all (piece x y) → (q : Point A)
+          → HasAtLeft K vertices edges u v q → HasAtLeft K vertices edges x y q → OneWalk K at all (piece u v) (piece x y)
+      linked u v x y d f q l k =
+          faces.different (piece u v) (piece x y) d f l.0 k.0 (left_of K vertices edges u v l.0 l.1) (left_of K vertices edges x y k.0 k.1)
+          (region_then K at all (region_of K vertices edges l.2) (region_back K at all (region_of K vertices edges k.2)))
+
+      one_walk : (corners others : List ℕ) → IsWalk K vertices edges corners → IsWalk K vertices edges others
+          → (q : Point A) → WalkHasAtLeft K vertices edges corners q → WalkHasAtLeft K vertices edges others q
+          → (u v : ℕ) → IsOfWalk corners u v → IsOfWalk others u v
+      one_walk corners others w z q l k u v i =
+          let across : OneWalk K at all (piece k.0 k.1) (piece l.0 l.1)
+          = linked k.0 k.1 l.0 l.1
+          (all_directed K vertices edges h (pieces_round others) z.follow (k.0, k.1) k.2)
+          (all_directed K vertices edges h (pieces_round corners) w.follow (l.0, l.1) l.2) q k.3 l.3 in
+          walk_holds K vertices edges h (pieces_round others) z.follow
+          (all_linked K vertices edges h (pieces_round corners) w.follow (l.0, l.1) (u, v) l.2 i)
+          (walk_holds K vertices edges h (pieces_round others) z.follow across k.2)
+
+      outer_not_bounded : (corners : List ℕ) → IsOuterWalk K vertices edges corners
+          → (q : Point A) → WalkHasAtLeft K vertices edges corners q → ¬ IsBoxed K vertices edges q
+      outer_not_bounded corners w q l b =
+          let o = w.outer in
+          let first : IsOuter K at all (piece o.0 o.1) = outer_piece K vertices edges h o.0 o.1 o.2 in
+          let r : (p : Point A) × LeftOf K at all (piece o.0 o.1) p = inner.some_left (piece o.0 o.1) first.1 in
+          faces.outer (piece o.0 o.1) r.0 first r.1
+          (bounded_too (one_region corners w.walk q r.0 l (o.0, o.1, o.3, (r.0, sees_of K vertices edges o.0 o.1 r.0 r.1, region_on K vertices edges (itself r.0 (piece o.0 o.1) first.1 r.1))))
+          (bounded_of K vertices edges q b))
+        where
+          itself : (p : Point A) (d : Piece) → IsDirected all d → LeftOf K at all d p → OneRegion K at all p p
+          itself p d hd k = inner.one_region d d hd same p p k k
+
+      inner_bounded : (outside corners : List ℕ) → IsOuterWalk K vertices edges outside → IsFaceWalk K vertices edges corners
+          → (q : Point A) → WalkHasAtLeft K vertices edges corners q → IsBoxed K vertices edges q
+      inner_bounded outside corners out w q l =
+          let o = out.outer in
+          let first : IsOuter K at all (piece o.0 o.1) = outer_piece K vertices edges h o.0 o.1 o.2 in
+          bounded_on K vertices edges q (bounded_too (region_of K vertices edges l.3.2)
+          (faces.inner (piece o.0 o.1) (piece l.0 l.1) l.3.0 first
+          (all_directed K vertices edges h (pieces_round corners) w.walk.follow (l.0, l.1) l.2)
+          (λ one. w.inner (o.0, o.1, o.2, walk_holds K vertices edges h (pieces_round corners) w.walk.follow (linked_back one) l.2))
+          (left_of K vertices edges l.0 l.1 l.3.0 l.3.1)))
+
+      pub bounded_faces : BoundedFaces K vertices edges
+      bounded_faces = record { one_walk = one_walk; outer = outer_not_bounded; inner = inner_bounded }
