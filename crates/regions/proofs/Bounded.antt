@@ -3,6 +3,7 @@ use Prim.Native.Nat.{ℕ}
 use mathlib.Core.Path.{◌≡◌, sym, subst}
 use mathlib.Core.List.{List, [], ◌∷◌}
 use mathlib.Core.Logic.{inl, inr}
+use Rattle.std.proofs.Common.{arith}
 use Rattle.std.specs.Prelude.{Contains, length, ◌<◌}
 use Rattle.algebra.specs.OrderedRing.{OrderedRing}
 use Rattle.plane.specs.declared.point.Point.{Point}
@@ -10,7 +11,7 @@ use Rattle.plane.specs.Points.{IsPoint}
 use Rattle.scaled_plane.specs.declared.drawing.Edge.{Edge}
 use Rattle.scaled_plane.specs.Lists.{IsReached, begun, gone_on}
 use Rattle.scaled_plane.specs.Regions.{AreInOneRegion, HasAtLeft, IsBounded as IsBoxed, IsOff as IsOffAll, SeesPiece}
-use Rattle.scaled_plane.specs.Walks.{AreJoined, FollowRound, IsDirectedPiece, IsFaceWalk, IsOuterWalk, IsWalk, pieces_round}
+use Rattle.scaled_plane.specs.Walks.{AreJoined, FollowRound, IsDirectedPiece, IsFaceWalk, IsOuterWalk, IsOutside, IsWalk, pieces_round}
 use Rattle.regions.specs.Faces.{IsPlane as IsPlaneDrawing, IsConnected as IsJoinedDrawing, IsOfWalk, WalkHasAtLeft, WalksHaveRegions as RegionsOfWalks, FacesAreBounded as BoundedFaces}
 use Rattle.regions.proofs.Drawings.{Piece, piece, Among, IsDirected, IsVertex, IsPlane, IsConnected, Route, arrived, via}
 use Rattle.regions.proofs.Regions.{LeftOf, OneRegion, IsBounded}
@@ -21,6 +22,7 @@ use Rattle.regions.proofs.Statements.{WalksHaveRegions, FacesAreBounded, IsOuter
 use Rattle.regions.proofs.Faces.{walks_have_regions, faces_are_bounded}
 use Rattle.regions.proofs.Pieces.{place, ps, piece_of, pieces_of, among_pieces, directed, directed_piece, off_pieces, region_of, region_on, bounded_of, bounded_on, left_of, sees_of, is_plane}
 use Rattle.regions.proofs.Rounds.{linked_back, all_linked, all_directed, walk_holds}
+use Rattle.regions.proofs.Leftmost.{some_outside}
 use Rattle.regions.proofs.Outer.{in_range, outer_piece}
 
 -- ---- routes
@@ -130,10 +132,10 @@ module _ {A : Type 0} (K : OrderedRing A) (vertices : List (Point A)) (edges : L
           itself : (p : Point A) (d : Piece) → IsDirected all d → LeftOf K at all d p → OneRegion K at all p p
           itself p d hd k = inner.one_region d d hd same p p k k
 
-      inner_bounded : (outside corners : List ℕ) → IsOuterWalk K vertices edges outside → IsFaceWalk K vertices edges corners
+      inner_bounded : (corners : List ℕ) → IsFaceWalk K vertices edges corners
           → (q : Point A) → WalkHasAtLeft K vertices edges corners q → IsBoxed K vertices edges q
-      inner_bounded outside corners out w q l =
-          let o = out.outer in
+      inner_bounded corners w q l =
+          let o : (u w : ℕ) × IsOutside K vertices edges u w = some_outside K vertices edges h (omega (arith, (h.ends e here).0)) in
           let first : IsOuter K at all (piece o.0 o.1) = outer_piece K vertices edges h o.0 o.1 o.2 in
           bounded_on K vertices edges q (bounded_too (region_of K vertices edges l.3.2)
           (faces.inner (piece o.0 o.1) (piece l.0 l.1) l.3.0 first

@@ -26,4 +26,5 @@ pub mod Pieces
 pub mod Following
 pub mod Rounds
 pub mod Outer
+pub mod Leftmost
 pub mod Bounded

@@ -65,6 +65,12 @@ module _ {A : Type 0} (K : OrderedRing A) (vertices : List (Point A)) (edges : L
     | inr s ↦ subst (λ (x : ℕ). x < length vertices) s.0 (h.ends p.0 p.1).0
   ]
 
+  pub other_end : (u x : ℕ) → IsDirectedPiece edges u x → ¬ (x ≡ u)
+  other_end u x p e = elim p.2 [
+    | inl s ↦ (h.ends p.0 p.1).2 (s.0 ∙ sym e ∙ sym s.1)
+    | inr s ↦ (h.ends p.0 p.1).2 (s.0 ∙ e ∙ sym s.1)
+  ]
+
   abbrev Later : ℕ → ℕ → Type 0
   Later u x = (K.sign (x_from K.ops (at u) (at x)) ≡ Greater) ⊎ ((K.sign (x_from K.ops (at u) (at x)) ≡ Equal) × (K.sign (y_from K.ops (at u) (at x)) ≡ Greater))
 
@@ -93,18 +99,12 @@ module _ {A : Type 0} (K : OrderedRing A) (vertices : List (Point A)) (edges : L
     ahead : (x : ℕ) → IsDirectedPiece edges u x → ¬ (x ≡ u) → IsTrue (is_ge (K.sign (x_from K.ops (at u) (at x))))
     ahead x p n = not_west K (K.sign (x_from K.ops (at u) (at x))) (later_of u x (o.least x (directed_end u x p) n))
 
-    other_end : (x : ℕ) → IsDirectedPiece edges u x → ¬ (x ≡ u)
-    other_end x p e = elim p.2 [
-      | inl s ↦ (h.ends p.0 p.1).2 (s.0 ∙ sym e ∙ sym s.1)
-      | inr s ↦ (h.ends p.0 p.1).2 (s.0 ∙ e ∙ sym s.1)
-    ]
-
     left_of_none : (x : ℕ) → IsDirectedPiece edges u x → ¬ (side K (at u) (at w) (at x) ≡ Greater)
     left_of_none x p = elim (same_or_not x w) [
       | inl e ↦ subst (λ (y : ℕ). ¬ (side K (at u) (at w) (at y) ≡ Greater)) (sym e) (equal_not_greater K (at_second K (at u) (at w)))
       | inr n ↦ λ k.
           none_left K (direction K.ops (at u) (at w)) (direction K.ops (at u) (at x))
-          (ahead w o.first.neighbour (other_end w o.first.neighbour)) (ahead x p (other_end x p))
+          (ahead w o.first.neighbour (other_end u w o.first.neighbour)) (ahead x p (other_end u x p))
           (o.first.first x p (λ e. e) n)
           (turn_side K (at u) (at w) (at x) hu ∙ k)
     ]

@@ -52,5 +52,5 @@ module _ {A : Type 0} (K : OrderedRing A) (vertices : List (Point A)) (edges : L
         → (u v : ℕ) → IsOfWalk corners u v → IsOfWalk others u v
     pub outer : (corners : List ℕ) → IsOuterWalk K vertices edges corners
         → (q : Point A) → WalkHasAtLeft corners q → ¬ IsBounded K vertices edges q
-    pub inner : (outside corners : List ℕ) → IsOuterWalk K vertices edges outside → IsFaceWalk K vertices edges corners
+    pub inner : (corners : List ℕ) → IsFaceWalk K vertices edges corners
         → (q : Point A) → WalkHasAtLeft corners q → IsBounded K vertices edges q
