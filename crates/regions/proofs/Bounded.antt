@@ -22,6 +22,7 @@ use Rattle.regions.proofs.Statements.{WalksHaveRegions, FacesAreBounded, IsOuter
 use Rattle.regions.proofs.Faces.{walks_have_regions, faces_are_bounded}
 use Rattle.regions.proofs.Pieces.{place, ps, piece_of, pieces_of, among_pieces, directed, directed_piece, off_pieces, region_of, region_on, bounded_of, bounded_on, left_of, sees_of, is_plane}
 use Rattle.regions.proofs.Rounds.{linked_back, all_linked, all_directed, walk_holds}
+use Rattle.regions.proofs.Cycles.{walk_through}
 use Rattle.regions.proofs.Leftmost.{some_outside}
 use Rattle.regions.proofs.Outer.{in_range, outer_piece}
 
@@ -84,11 +85,12 @@ module _ {A : Type 0} (K : OrderedRing A) (vertices : List (Point A)) (edges : L
       one_region = λ corners w p q l k. region_on K vertices edges (one_region corners w p q l k);
       no_region_missed = λ p hp off.
           let r : (d : Piece) × IsDirected all d × ((q : Point A) × LeftOf K at all d q × OneRegion K at all p q)
-          = inner.every_region p hp (off_pieces K vertices edges p off) in (
-            r.0.tail,
-            r.0.head,
-            directed_piece edges r.0.tail r.0.head r.1,
-            (r.2.0, sees_of K vertices edges r.0.tail r.0.head r.2.0 r.2.1, region_on K vertices edges (region_back K at all r.2.2)),
+          = inner.every_region p hp (off_pieces K vertices edges p off) in
+          let w : (corners : List ℕ) × IsWalk K vertices edges corners × IsOfWalk corners r.0.tail r.0.head
+          = walk_through K vertices edges h r.0.tail r.0.head (directed_piece edges r.0.tail r.0.head r.1) in (
+            w.0,
+            w.1,
+            (r.0.tail, r.0.head, w.2, (r.2.0, sees_of K vertices edges r.0.tail r.0.head r.2.0 r.2.1, region_on K vertices edges (region_back K at all r.2.2))),
           );
     }
 

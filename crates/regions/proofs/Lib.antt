@@ -26,5 +26,6 @@ pub mod Pieces
 pub mod Following
 pub mod Rounds
 pub mod Outer
+pub mod Cycles
 pub mod Leftmost
 pub mod Bounded

@@ -110,7 +110,7 @@ module _ {A : Type 0} (K : OrderedRing A) (vertices : List (Point A)) (edges : L
   after_follows p q f =
       subst (λ (t : ℕ). Follows K at all (as_piece p) (piece t q.1)) f.0 (follows_of K vertices edges h p.0 p.1 q.1 f.1)
 
-  follows_after : (d e : Piece) → Follows K at all d e → ComesAfter K vertices edges d.tail d.head e.head
+  pub follows_after : (d e : Piece) → Follows K at all d e → ComesAfter K vertices edges d.tail d.head e.head
   follows_after d e f =
       after_of K vertices edges h d.tail d.head e.head
       (subst (λ (t : ℕ). Follows K at all d (piece t e.head)) f.turns_at f)

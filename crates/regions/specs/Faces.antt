@@ -42,7 +42,7 @@ module _ {A : Type 0} (K : OrderedRing A) (vertices : List (Point A)) (edges : L
     pub one_region : (corners : List ℕ) → IsWalk K vertices edges corners → (p q : Point A)
         → WalkHasAtLeft corners p → WalkHasAtLeft corners q → AreInOneRegion K vertices edges p q
     pub no_region_missed : (p : Point A) → IsPoint K p → IsOff K vertices edges p
-        → (u v : ℕ) × IsDirectedPiece edges u v × HasAtLeft K vertices edges u v p
+        → (corners : List ℕ) × IsWalk K vertices edges corners × WalkHasAtLeft corners p
 
   -- two walks with one region are one walk, the region of the outer walk isn't bounded, and those
   -- of all others are
