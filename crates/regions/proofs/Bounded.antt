@@ -1,18 +1,28 @@
 -- The faces are the bounded regions, in the words of drawings.
-use Prim.Native.Nat.{ℕ}
-use mathlib.Core.Path.{◌≡◌, sym, subst}
+use Prim.Native.Nat.{ℕ, zero, suc, ◌<◌}
+use mathlib.Core.Path.{◌≡◌, sym, subst, ap, ◌∙◌}
 use mathlib.Core.List.{List, [], ◌∷◌}
 use mathlib.Core.Logic.{inl, inr}
-use Rattle.std.proofs.Common.{arith}
-use Rattle.std.specs.Prelude.{Contains, length, ◌<◌}
+use Rattle.std.proofs.Common.{arith, get_or}
+use Rattle.std.proofs.lemmas.Cmp.{nat_list_cmp_total, tied_itself}
+use Rattle.std.proofs.lemmas.List.Elements.{Contains-get_or}
+use Rattle.std.proofs.lemmas.List.Kept.{AllPairs-cons}
+use Rattle.std.specs.Prelude.{All, AllPairs, Contains, length}
+use Rattle.std.specs.Cmp.Lexicographic.{slice_cmp}
+use Rattle.std.specs.List.{AllByRecursion}
+use Rattle.std.specs.List.Sorted.{IsStrictlySortedBy}
+use Rattle.std.specs.Ordering.{nat_cmp, on}
+use Rattle.std.specs.declared.cmp.Ordering.{Ordering}
+use Rattle.std.specs.declared.cmp.Ordering.TheVariants.{Less, Equal}
 use Rattle.algebra.specs.OrderedRing.{OrderedRing}
 use Rattle.plane.specs.declared.point.Point.{Point}
 use Rattle.plane.specs.Points.{IsPoint}
 use Rattle.scaled_plane.specs.declared.drawing.Edge.{Edge}
-use Rattle.scaled_plane.specs.Lists.{IsReached, begun, gone_on}
+use Rattle.scaled_plane.specs.declared.drawing.Face.{Face}
+use Rattle.scaled_plane.specs.Lists.{IsReached, begun, gone_on, IsRotation}
 use Rattle.scaled_plane.specs.Regions.{AreInOneRegion, HasAtLeft, IsBounded as IsBoxed, IsOff as IsOffAll, SeesPiece}
-use Rattle.scaled_plane.specs.Walks.{AreJoined, FollowRound, IsDirectedPiece, IsFaceWalk, IsOuterWalk, IsOutside, IsWalk, pieces_round}
-use Rattle.regions.specs.Faces.{IsPlane as IsPlaneDrawing, IsConnected as IsJoinedDrawing, IsOfWalk, WalkHasAtLeft, WalksHaveRegions as RegionsOfWalks, FacesAreBounded as BoundedFaces}
+use Rattle.scaled_plane.specs.Walks.{AreFaces, IsDirectedPiece, IsFaceWalk, IsLeastRotation, IsOuterWalk, IsOutside, IsWalk, pieces_round}
+use Rattle.regions.specs.Faces.{IsPlane as IsPlaneDrawing, IsConnected as IsJoinedDrawing, IsOfWalk, WalkHasAtLeft, WalksHaveRegions as RegionsOfWalks, FacesAreBounded as BoundedFaces, AreBoundedRegions}
 use Rattle.regions.proofs.Drawings.{Piece, piece, Among, IsDirected, IsVertex, IsPlane, IsConnected, Route, arrived, via}
 use Rattle.regions.proofs.Regions.{LeftOf, OneRegion, IsBounded}
 use Rattle.regions.proofs.Walks.{OneWalk, same}
@@ -24,7 +34,24 @@ use Rattle.regions.proofs.Pieces.{place, ps, piece_of, pieces_of, among_pieces, 
 use Rattle.regions.proofs.Rounds.{linked_back, all_linked, all_directed, walk_holds}
 use Rattle.regions.proofs.Cycles.{walk_through}
 use Rattle.regions.proofs.Leftmost.{some_outside}
+use Rattle.regions.proofs.Partition.{least_walk}
+use Rattle.regions.proofs.Rotations.{of_rotated, one_least, one_walk_round}
 use Rattle.regions.proofs.Outer.{in_range, outer_piece}
+
+-- ---- sorted lists
+
+at_each : {X : Type 0} (P : X → Type 0) (xs : List X) → AllByRecursion P xs → All P xs
+at_each P [] h k d l = absurd (omega (arith, l))
+at_each P (x ∷ xs) h zero d l = h.0
+at_each P (x ∷ xs) h (suc k) d l = at_each P xs h.1 k d (omega (arith, l))
+
+sorted_pairs : {X : Type 0} (order : X → X → Ordering) (xs : List X) → IsStrictlySortedBy order xs → AllPairs (λ x y. order x y ≡ Less) xs
+unfolding IsStrictlySortedBy
+sorted_pairs order [] h = λ i j d l within. absurd (omega (arith, within))
+sorted_pairs order (x ∷ xs) h = AllPairs-cons (λ x y. order x y ≡ Less) x xs (at_each (λ y. order x y ≡ Less) xs h.0) (sorted_pairs order xs h.1)
+
+different_lists : {xs ys : List ℕ} → slice_cmp nat_cmp xs ys ≡ Less → ¬ (xs ≡ ys)
+different_lists {xs} {ys} l e = absurd (let no : Less ≡ Equal = sym l ∙ ap (λ (zs : List ℕ). slice_cmp nat_cmp xs zs) (sym e) ∙ tied_itself nat_list_cmp_total xs in cc)
 
 -- ---- routes
 
@@ -110,16 +137,13 @@ module _ {A : Type 0} (K : OrderedRing A) (vertices : List (Point A)) (edges : L
           (region_then K at all (region_of K vertices edges l.2) (region_back K at all (region_of K vertices edges k.2)))
 
       one_walk : (corners others : List ℕ) → IsWalk K vertices edges corners → IsWalk K vertices edges others
-          → (q : Point A) → WalkHasAtLeft K vertices edges corners q → WalkHasAtLeft K vertices edges others q
-          → (u v : ℕ) → IsOfWalk corners u v → IsOfWalk others u v
-      one_walk corners others w z q l k u v i =
+          → (q : Point A) → WalkHasAtLeft K vertices edges corners q → WalkHasAtLeft K vertices edges others q → IsRotation corners others
+      one_walk corners others w z q l k =
           let across : OneWalk K at all (piece k.0 k.1) (piece l.0 l.1)
           = linked k.0 k.1 l.0 l.1
           (all_directed K vertices edges h (pieces_round others) z.follow (k.0, k.1) k.2)
           (all_directed K vertices edges h (pieces_round corners) w.follow (l.0, l.1) l.2) q k.3 l.3 in
-          walk_holds K vertices edges h (pieces_round others) z.follow
-          (all_linked K vertices edges h (pieces_round corners) w.follow (l.0, l.1) (u, v) l.2 i)
-          (walk_holds K vertices edges h (pieces_round others) z.follow across k.2)
+          one_walk_round K vertices edges corners others w z l.0 l.1 l.2 (walk_holds K vertices edges h (pieces_round others) z.follow across k.2)
 
       outer_not_bounded : (corners : List ℕ) → IsOuterWalk K vertices edges corners
           → (q : Point A) → WalkHasAtLeft K vertices edges corners q → ¬ IsBoxed K vertices edges q
@@ -147,3 +171,32 @@ module _ {A : Type 0} (K : OrderedRing A) (vertices : List (Point A)) (edges : L
 
       pub bounded_faces : BoundedFaces K vertices edges
       bounded_faces = record { one_walk = one_walk; outer = outer_not_bounded; inner = inner_bounded }
+
+      -- ---- a list of the faces
+
+      one_face : (f g : List ℕ) → IsFaceWalk K vertices edges f → IsFaceWalk K vertices edges g → (q : Point A)
+          → WalkHasAtLeft K vertices edges f q → WalkHasAtLeft K vertices edges g q → f ≡ g
+      one_face f g w z q l k = one_least f g w.least z.least (one_walk f g w.walk z.walk q l k)
+
+      -- a walk with a bounded region at its left is a face, begun at its least corner
+      face_of : (corners : List ℕ) → IsWalk K vertices edges corners → (q : Point A) → WalkHasAtLeft K vertices edges corners q → IsBoxed K vertices edges q
+          → (first : List ℕ) × IsFaceWalk K vertices edges first × WalkHasAtLeft K vertices edges first q
+      face_of corners w q l b =
+          let r : (first : List ℕ) × IsRotation corners first × IsLeastRotation first × IsWalk K vertices edges first = least_walk K vertices edges corners w in
+          let left : WalkHasAtLeft K vertices edges r.0 q = (l.0, l.1, of_rotated K vertices edges corners r.0 r.1 l.0 l.1 l.2, l.3) in (
+            r.0,
+            record { walk = r.3; least = r.2; inner = λ o. outer_not_bounded r.0 (record { walk = r.3; least = r.2; outer = o }) q left b },
+            left,
+          )
+
+      pub listed_faces : (faces : List Face) → AreFaces K vertices edges faces → AreBoundedRegions K vertices edges faces
+      listed_faces faces are = record {
+        bounded = λ f i q l. inner_bounded f.corners (are.only f i) q l;
+        every = λ q hq off b.
+            let w : (corners : List ℕ) × IsWalk K vertices edges corners × WalkHasAtLeft K vertices edges corners q = regions_of_walks.no_region_missed q hq off in
+            let r : (first : List ℕ) × IsFaceWalk K vertices edges first × WalkHasAtLeft K vertices edges first q = face_of w.0 w.1 q w.2 b in
+            let f : (g : Face) × Contains faces g × (record { corners = r.0 } ≡ g) = are.every (record { corners = r.0 }) r.1 in
+            (f.0, f.1, subst (λ (g : Face). WalkHasAtLeft K vertices edges g.corners q) f.2 r.2);
+        each_once = λ i j d below within q l k. different_lists (sorted_pairs (on (λ (f : Face). f.corners) (slice_cmp nat_cmp)) faces are.sorted i j d below within) (one_face (get_or faces i d).corners (get_or faces j d).corners
+            (are.only (get_or faces i d) (Contains-get_or faces i d (omega (arith, below, within)))) (are.only (get_or faces j d) (Contains-get_or faces j d within)) q l k);
+      }

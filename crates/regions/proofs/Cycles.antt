@@ -21,7 +21,7 @@ use Rattle.regions.proofs.Followers.{follower}
 use Rattle.regions.proofs.Pieces.{place, ps, directed, is_plane}
 use Rattle.regions.proofs.Rounds.{follows_after}
 
-abbrev Pair : Type 0
+abbrev pub Pair : Type 0
 Pair = ℕ × ℕ
 
 same_pair_or_not : (p q : Pair) → (p ≡ q) ⊎ ¬ (p ≡ q)
@@ -61,11 +61,14 @@ without [] x i = absurd (in_nil x i)
 without (y ∷ ys) x i = elim (in_cons y ys x i) [
   | inl e ↦ (ys, omega arith, λ z j n. elim (in_cons y ys z j) [ inl f ↦ absurd (n (sym f ∙ e)) | inr k ↦ k ])
   | inr j ↦
-      let r : (zs : List Pair) × (length ys ≡ suc (length zs)) × ((z : Pair) → Contains ys z → ¬ (z ≡ x) → Contains zs z) = without ys x j in
-      (y ∷ r.0, omega (arith, r.1), λ z k n. elim (in_cons y ys z k) [
-        | inl f ↦ subst (λ (t : Pair). Contains (y ∷ r.0) t) f (in_head y r.0)
-        | inr m ↦ in_tail y r.0 z (r.2 z m n)
-      ])
+      let r : (zs : List Pair) × (length ys ≡ suc (length zs)) × ((z : Pair) → Contains ys z → ¬ (z ≡ x) → Contains zs z) = without ys x j in (
+        y ∷ r.0,
+        omega (arith, r.1),
+        λ z k n. elim (in_cons y ys z k) [
+          | inl f ↦ subst (λ (t : Pair). Contains (y ∷ r.0) t) f (in_head y r.0)
+          | inr m ↦ in_tail y r.0 z (r.2 z m n)
+        ],
+      )
 ]
 
 -- it is no longer than a list that holds all of it
@@ -95,7 +98,7 @@ in_sides (e ∷ es) u v p = elim (in_cons e es p.0 p.1) [
   ]
 ]
 
-abbrev tails : List Pair → List ℕ
+abbrev pub tails : List Pair → List ℕ
 tails [] = []
 tails (p ∷ xs) = p.0 ∷ tails xs
 

@@ -142,22 +142,24 @@ module _ {A : Type 0} (K : OrderedRing A) (vertices : List (Point A)) (edges : L
         elim r.2 [ inl e ↦ (r.0.to, (r.0, r.1, inl (e, refl))) | inr e ↦ (r.0.from, (r.0, r.1, inr (refl, e))) ]
 
     first_of : (xs : List ℕ) → ((y : ℕ) → IsOne y xs → IsDirectedPiece edges u y) → (x : ℕ) → IsOne x xs → (w : ℕ) × First w xs
-    first_of [] all x i = absurd i
-    first_of (y ∷ rest) all x i =
+    first_of [] ones x i = absurd i
+    first_of (y ∷ rest) ones x i =
         some_first K (west K.ops) (way K vertices edges u) (IsDirectedPiece edges u)
         (λ x p. not_westwards K (way K vertices edges u x) (later_of K vertices edges h u x (least x (directed_end K vertices edges h u x p) (other_end K vertices edges h u x p))))
-        (neighbours_differ u) y rest all
+        (neighbours_differ u) y rest ones
 
     outside_at : (w : ℕ) × IsOutside K vertices edges u w
     outside_at =
         let l : Listed (IsDirectedPiece edges u) = neighbours u edges in
         let some : (x : ℕ) × IsDirectedPiece edges u x = some_neighbour in
-        let f : (w : ℕ) × First w l.0 = first_of l.0 l.1 some.0 (l.2 some.0 some.1) in
-        (f.0, record {
-          in_range = iu;
-          least = least;
-          first = record { neighbour = f.1.has; first = λ x p skipped other. f.1.before x (l.2 x p) other };
-        })
+        let f : (w : ℕ) × First w l.0 = first_of l.0 l.1 some.0 (l.2 some.0 some.1) in (
+          f.0,
+          record {
+            in_range = iu;
+            least = least;
+            first = record { neighbour = f.1.has; first = λ x p skipped other. f.1.before x (l.2 x p) other };
+          },
+        )
 
   pub some_outside : 0 < length vertices → (u w : ℕ) × IsOutside K vertices edges u w
   some_outside l =

@@ -27,5 +27,7 @@ pub mod Following
 pub mod Rounds
 pub mod Outer
 pub mod Cycles
+pub mod Rotations
 pub mod Leftmost
+pub mod Partition
 pub mod Bounded

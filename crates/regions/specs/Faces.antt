@@ -1,10 +1,11 @@
--- Faces are the bounded regions of a plane drawing.
+-- Walks and the regions at their left, in a plane drawing.
 use Rattle.std.specs.Prelude.{◌≡◌, ℕ, ◌<◌, List, length, Contains, AllPairs}
 use Rattle.algebra.specs.OrderedRing.{OrderedRing}
 use Rattle.plane.specs.declared.point.Point.{Point}
 use Rattle.plane.specs.Points.{IsPoint, IsSamePoint}
 use Rattle.plane.specs.Segments.{MeetInEnds}
 use Rattle.scaled_plane.specs.declared.drawing.Edge.{Edge}
+use Rattle.scaled_plane.specs.declared.drawing.Face.{Face}
 use Rattle.scaled_plane.specs.Lists.{IsRotation}
 use Rattle.scaled_plane.specs.Pieces.{point_at}
 use Rattle.scaled_plane.specs.WellSet.{HasEnd}
@@ -35,8 +36,8 @@ module _ {A : Type 0} (K : OrderedRing A) (vertices : List (Point A)) (edges : L
   abbrev pub WalkHasAtLeft : List ℕ → Point A → Type 0
   WalkHasAtLeft corners q = (u v : ℕ) × IsOfWalk corners u v × HasAtLeft K vertices edges u v q
 
-  -- all directed pieces of one walk have one region at their left, and each region is at the left
-  -- of a walk
+  -- each directed piece has a region at its left, those of one walk have one region, and each
+  -- region is at the left of a walk
   pub record WalksHaveRegions : Type 0 where
     pub seen : (u v : ℕ) → IsDirectedPiece edges u v → (p : Point A) × SeesPiece K vertices edges u v p
     pub one_region : (corners : List ℕ) → IsWalk K vertices edges corners → (p q : Point A)
@@ -44,13 +45,19 @@ module _ {A : Type 0} (K : OrderedRing A) (vertices : List (Point A)) (edges : L
     pub no_region_missed : (p : Point A) → IsPoint K p → IsOff K vertices edges p
         → (corners : List ℕ) × IsWalk K vertices edges corners × WalkHasAtLeft corners p
 
-  -- two walks with one region are one walk, the region of the outer walk isn't bounded, and those
-  -- of all others are
+  -- walks with one region are one walk, begun at any of its corners; the region of the outer walk
+  -- isn't bounded, and those of all others are
   pub record FacesAreBounded : Type 0 where
     pub one_walk : (corners others : List ℕ) → IsWalk K vertices edges corners → IsWalk K vertices edges others
-        → (q : Point A) → WalkHasAtLeft corners q → WalkHasAtLeft others q
-        → (u v : ℕ) → IsOfWalk corners u v → IsOfWalk others u v
+        → (q : Point A) → WalkHasAtLeft corners q → WalkHasAtLeft others q → IsRotation corners others
     pub outer : (corners : List ℕ) → IsOuterWalk K vertices edges corners
         → (q : Point A) → WalkHasAtLeft corners q → ¬ IsBounded K vertices edges q
     pub inner : (corners : List ℕ) → IsFaceWalk K vertices edges corners
         → (q : Point A) → WalkHasAtLeft corners q → IsBounded K vertices edges q
+
+  -- the faces are the bounded regions, each once
+  pub record AreBoundedRegions (faces : List Face) : Type 0 where
+    pub bounded : (f : Face) → Contains faces f → (q : Point A) → WalkHasAtLeft f.corners q → IsBounded K vertices edges q
+    pub every : (q : Point A) → IsPoint K q → IsOff K vertices edges q → IsBounded K vertices edges q
+        → (f : Face) × Contains faces f × WalkHasAtLeft f.corners q
+    pub each_once : AllPairs (λ f g. (q : Point A) → WalkHasAtLeft f.corners q → ¬ WalkHasAtLeft g.corners q) faces
