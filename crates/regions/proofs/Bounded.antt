@@ -1,13 +1,12 @@
 -- The faces are the bounded regions, in the words of drawings.
-use Prim.Native.Nat.{ℕ, zero, suc, ◌<◌}
+use Prim.Native.Nat.{ℕ, zero, suc}
 use mathlib.Core.Path.{◌≡◌, sym, subst, ap, ◌∙◌}
 use mathlib.Core.List.{List, [], ◌∷◌}
-use mathlib.Core.Logic.{inl, inr}
 use Rattle.std.proofs.Common.{arith, get_or}
 use Rattle.std.proofs.lemmas.Cmp.{nat_list_cmp_total, tied_itself}
 use Rattle.std.proofs.lemmas.List.Elements.{Contains-get_or}
 use Rattle.std.proofs.lemmas.List.Kept.{AllPairs-cons}
-use Rattle.std.specs.Prelude.{All, AllPairs, Contains, length}
+use Rattle.std.specs.Prelude.{All, AllPairs, Contains}
 use Rattle.std.specs.Cmp.Lexicographic.{slice_cmp}
 use Rattle.std.specs.List.{AllByRecursion}
 use Rattle.std.specs.List.Sorted.{IsStrictlySortedBy}
@@ -16,20 +15,24 @@ use Rattle.std.specs.declared.cmp.Ordering.{Ordering}
 use Rattle.std.specs.declared.cmp.Ordering.TheVariants.{Less, Equal}
 use Rattle.algebra.specs.OrderedRing.{OrderedRing}
 use Rattle.plane.specs.declared.point.Point.{Point}
-use Rattle.plane.specs.Points.{IsPoint}
 use Rattle.scaled_plane.specs.declared.drawing.Edge.{Edge}
 use Rattle.scaled_plane.specs.declared.drawing.Face.{Face}
 use Rattle.scaled_plane.specs.Lists.{IsReached, begun, gone_on, IsRotation}
-use Rattle.scaled_plane.specs.Regions.{AreInOneRegion, HasAtLeft, IsBounded as IsBoxed, IsOff as IsOffAll, SeesPiece}
+use Rattle.scaled_plane.specs.Regions.{HasAtLeft, IsBounded as IsBoxed, SeesPiece}
 use Rattle.scaled_plane.specs.Walks.{AreFaces, IsDirectedPiece, IsFaceWalk, IsLeastRotation, IsOuterWalk, IsOutside, IsWalk, pieces_round}
-use Rattle.regions.specs.Faces.{IsPlane as IsPlaneDrawing, IsConnected as IsJoinedDrawing, IsOfWalk, WalkHasAtLeft, WalksHaveRegions as RegionsOfWalks, FacesAreBounded as BoundedFaces, AreBoundedRegions}
-use Rattle.regions.proofs.Drawings.{Piece, piece, Among, IsDirected, IsVertex, IsPlane, IsConnected, Route, arrived, via}
+use Rattle.regions.specs.Faces.{IsPlane as IsPlaneDrawing, IsConnected as IsJoinedDrawing, IsOfWalk, WalkHasAtLeft, WalksHaveRegions, FacesAreBounded, AreBoundedRegions}
+use Rattle.regions.proofs.Drawings.{Piece, piece, Among, IsDirected, IsPlane, IsConnected, Route, arrived, via}
 use Rattle.regions.proofs.Regions.{LeftOf, OneRegion, IsBounded}
 use Rattle.regions.proofs.Walks.{OneWalk, same}
 use Rattle.regions.proofs.Directions.{directed_back}
 use Rattle.regions.proofs.Tracing.{region_then, region_back}
-use Rattle.regions.proofs.Statements.{WalksHaveRegions, FacesAreBounded, IsOuter}
-use Rattle.regions.proofs.Faces.{walks_have_regions, faces_are_bounded}
+use Rattle.regions.proofs.Outermost.{IsOuter}
+use Rattle.regions.proofs.AlongWalks.{one_region as region_of_walk}
+use Rattle.regions.proofs.InnerPoints.{some_left, middle_inner}
+use Rattle.regions.proofs.Reaching.{every_region}
+use Rattle.regions.proofs.Growing.{one_walk_of_connected}
+use Rattle.regions.proofs.Outside.{outer_unbounded, inner_bounded as inside_bounded}
+use Rattle.regions.proofs.Different.{OneLeft}
 use Rattle.regions.proofs.Pieces.{place, ps, piece_of, pieces_of, among_pieces, directed, directed_piece, off_pieces, region_of, region_on, bounded_of, bounded_on, left_of, sees_of, is_plane}
 use Rattle.regions.proofs.Rounds.{linked_back, all_linked, all_directed, walk_holds}
 use Rattle.regions.proofs.Cycles.{walk_through}
@@ -86,15 +89,15 @@ module _ {A : Type 0} (K : OrderedRing A) (vertices : List (Point A)) (edges : L
   of_edge : (e : Edge) → Contains edges e → Among all (piece_of e)
   of_edge e i = among_pieces edges e i
 
-  module _ (e : Edge) (here : Contains edges e) where
-    inner : WalksHaveRegions K at all
-    inner = walks_have_regions K at all plane (piece_of e) (of_edge e here)
+  left_point : (d : Piece) → IsDirected all d → (p : Point A) × LeftOf K at all d p
+  left_point d hd = some_left K at all plane d hd (middle_inner K at all plane d hd)
 
+  module _ (e : Edge) (here : Contains edges e) where
     -- two points that see pieces of one walk
     seen_together : (corners : List ℕ) → IsWalk K vertices edges corners → (u v x y : ℕ) → IsOfWalk corners u v → IsOfWalk corners x y
         → (p q : Point A) → SeesPiece K vertices edges u v p → SeesPiece K vertices edges x y q → OneRegion K at all p q
     seen_together corners w u v x y i j p q sp sq =
-        inner.one_region (piece u v) (piece x y) (all_directed K vertices edges h (pieces_round corners) w.follow (u, v) i)
+        region_of_walk K at all plane (piece u v) (piece x y) (all_directed K vertices edges h (pieces_round corners) w.follow (u, v) i)
         (all_linked K vertices edges h (pieces_round corners) w.follow (u, v) (x, y) i j)
         p q (left_of K vertices edges u v p sp) (left_of K vertices edges x y q sq)
 
@@ -104,15 +107,15 @@ module _ {A : Type 0} (K : OrderedRing A) (vertices : List (Point A)) (edges : L
         region_then K at all (region_back K at all (region_of K vertices edges l.3.2))
         (region_then K at all (seen_together corners w l.0 l.1 k.0 k.1 l.2 k.2 l.3.0 k.3.0 l.3.1 k.3.1) (region_of K vertices edges k.3.2))
 
-    pub regions_of_walks : RegionsOfWalks K vertices edges
+    pub regions_of_walks : WalksHaveRegions K vertices edges
     regions_of_walks = record {
       seen = λ u v d.
-          let r : (p : Point A) × LeftOf K at all (piece u v) p = inner.some_left (piece u v) (directed edges u v d) in
+          let r : (p : Point A) × LeftOf K at all (piece u v) p = left_point (piece u v) (directed edges u v d) in
           (r.0, sees_of K vertices edges u v r.0 r.1);
       one_region = λ corners w p q l k. region_on K vertices edges (one_region corners w p q l k);
       no_region_missed = λ p hp off.
           let r : (d : Piece) × IsDirected all d × ((q : Point A) × LeftOf K at all d q × OneRegion K at all p q)
-          = inner.every_region p hp (off_pieces K vertices edges p off) in
+          = every_region K at all plane (piece_of e) (of_edge e here) p hp (off_pieces K vertices edges p off) in
           let w : (corners : List ℕ) × IsWalk K vertices edges corners × IsOfWalk corners r.0.tail r.0.head
           = walk_through K vertices edges h r.0.tail r.0.head (directed_piece edges r.0.tail r.0.head r.1) in (
             w.0,
@@ -122,8 +125,8 @@ module _ {A : Type 0} (K : OrderedRing A) (vertices : List (Point A)) (edges : L
     }
 
     module _ (joined : IsJoinedDrawing K vertices edges) where
-      faces : FacesAreBounded K at all
-      faces = faces_are_bounded K at all plane (piece_of e) (of_edge e here) (connected joined)
+      walk_of : (d f : Piece) → IsDirected all d → IsDirected all f → OneLeft K at all d f → OneWalk K at all d f
+      walk_of = one_walk_of_connected K at all plane (connected joined) (piece_of e) (of_edge e here)
 
       -- a bounded region is so at each of its points
       bounded_too : {p q : Point A} → OneRegion K at all p q → IsBounded K at all p → IsBounded K at all q
@@ -133,8 +136,13 @@ module _ {A : Type 0} (K : OrderedRing A) (vertices : List (Point A)) (edges : L
       linked : (u v x y : ℕ) → IsDirected all (piece u v) → IsDirected all (piece x y) → (q : Point A)
           → HasAtLeft K vertices edges u v q → HasAtLeft K vertices edges x y q → OneWalk K at all (piece u v) (piece x y)
       linked u v x y d f q l k =
-          faces.different (piece u v) (piece x y) d f l.0 k.0 (left_of K vertices edges u v l.0 l.1) (left_of K vertices edges x y k.0 k.1)
-          (region_then K at all (region_of K vertices edges l.2) (region_back K at all (region_of K vertices edges k.2)))
+          walk_of (piece u v) (piece x y) d f (
+            l.0,
+            k.0,
+            left_of K vertices edges u v l.0 l.1,
+            left_of K vertices edges x y k.0 k.1,
+            region_then K at all (region_of K vertices edges l.2) (region_back K at all (region_of K vertices edges k.2)),
+          )
 
       one_walk : (corners others : List ℕ) → IsWalk K vertices edges corners → IsWalk K vertices edges others
           → (q : Point A) → WalkHasAtLeft K vertices edges corners q → WalkHasAtLeft K vertices edges others q → IsRotation corners others
@@ -150,13 +158,13 @@ module _ {A : Type 0} (K : OrderedRing A) (vertices : List (Point A)) (edges : L
       outer_not_bounded corners w q l b =
           let o = w.outer in
           let first : IsOuter K at all (piece o.0 o.1) = outer_piece K vertices edges h o.0 o.1 o.2 in
-          let r : (p : Point A) × LeftOf K at all (piece o.0 o.1) p = inner.some_left (piece o.0 o.1) first.1 in
-          faces.outer (piece o.0 o.1) r.0 first r.1
+          let r : (p : Point A) × LeftOf K at all (piece o.0 o.1) p = left_point (piece o.0 o.1) first.1 in
+          outer_unbounded K at all plane (piece o.0 o.1) first r.0 r.1
           (bounded_too (one_region corners w.walk q r.0 l (o.0, o.1, o.3, (r.0, sees_of K vertices edges o.0 o.1 r.0 r.1, region_on K vertices edges (itself r.0 (piece o.0 o.1) first.1 r.1))))
           (bounded_of K vertices edges q b))
         where
           itself : (p : Point A) (d : Piece) → IsDirected all d → LeftOf K at all d p → OneRegion K at all p p
-          itself p d hd k = inner.one_region d d hd same p p k k
+          itself p d hd k = region_of_walk K at all plane d d hd same p p k k
 
       inner_bounded : (corners : List ℕ) → IsFaceWalk K vertices edges corners
           → (q : Point A) → WalkHasAtLeft K vertices edges corners q → IsBoxed K vertices edges q
@@ -164,12 +172,12 @@ module _ {A : Type 0} (K : OrderedRing A) (vertices : List (Point A)) (edges : L
           let o : (u w : ℕ) × IsOutside K vertices edges u w = some_outside K vertices edges h (omega (arith, (h.ends e here).0)) in
           let first : IsOuter K at all (piece o.0 o.1) = outer_piece K vertices edges h o.0 o.1 o.2 in
           bounded_on K vertices edges q (bounded_too (region_of K vertices edges l.3.2)
-          (faces.inner (piece o.0 o.1) (piece l.0 l.1) l.3.0 first
+          (inside_bounded K at all plane (piece o.0 o.1) first walk_of (piece l.0 l.1) l.3.0
           (all_directed K vertices edges h (pieces_round corners) w.walk.follow (l.0, l.1) l.2)
           (λ one. w.inner (o.0, o.1, o.2, walk_holds K vertices edges h (pieces_round corners) w.walk.follow (linked_back one) l.2))
           (left_of K vertices edges l.0 l.1 l.3.0 l.3.1)))
 
-      pub bounded_faces : BoundedFaces K vertices edges
+      pub bounded_faces : FacesAreBounded K vertices edges
       bounded_faces = record { one_walk = one_walk; outer = outer_not_bounded; inner = inner_bounded }
 
       -- ---- a list of the faces

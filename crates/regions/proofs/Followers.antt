@@ -5,8 +5,8 @@ use mathlib.Core.List.{List}
 use mathlib.Core.Logic.{inl, inr}
 use Rattle.algebra.specs.OrderedRing.{OrderedRing}
 use Rattle.plane.specs.declared.point.Point.{Point}
-use Rattle.regions.proofs.Drawings.{Piece, piece, Among, IsDirected, IsPlane}
-use Rattle.regions.proofs.Walks.{ComesBefore, Follows, OneWalk, same, onward, back, IsRound}
+use Rattle.regions.proofs.Drawings.{Piece, piece, IsDirected, IsPlane}
+use Rattle.regions.proofs.Walks.{ComesBefore, Follows, OneWalk, same, onward, back}
 use Rattle.regions.proofs.Directions.{directed_back}
 use Rattle.regions.proofs.Turns.{one_first, one_last}
 use Rattle.regions.proofs.Adding.{best}
@@ -40,12 +40,3 @@ module _ {A : Type 0} (K : OrderedRing A) (place : ℕ → Point A) (ps : List P
   throughout_walk P h same p = p
   throughout_walk P h (onward {d} {e} f w) p = throughout_walk P h w ((h d e f).0 p)
   throughout_walk P h (back {d} {e} f w) p = throughout_walk P h w ((h e d f).1 p)
-
-  -- a walk round holds all of its walk
-  pub walk_within : (ds : List Piece) → IsRound K place ps ds → {d e : Piece} → OneWalk K place ps d e → Among ds d → Among ds e
-  walk_within ds r w i =
-      throughout_walk (λ d. Among ds d)
-      (λ d e h. (
-        (λ i. subst (λ e. Among ds e) (one_follower d (r.next d i).0 e (r.next d i).2 h) (r.next d i).1),
-        (λ i. subst (λ d. Among ds d) (one_before (r.previous e i).0 d e (r.previous e i).2 h) (r.previous e i).1),
-      )) w i

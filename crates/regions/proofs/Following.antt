@@ -3,7 +3,6 @@ use Prim.Native.Nat.{ℕ}
 use mathlib.Core.Path.{◌≡◌, refl, sym, ap, subst, ◌∙◌}
 use mathlib.Core.List.{List, [], ◌∷◌}
 use mathlib.Core.Logic.{◌⊎◌, inl, inr}
-use Rattle.std.specs.Prelude.{length, ◌<◌}
 use Rattle.algebra.specs.OrderedRing.{OrderedRing}
 use Rattle.algebra.proofs.Solvers.{reads, ring, sign_of_multiple}
 use Rattle.plane.specs.declared.point.Point.{Point}
@@ -13,7 +12,7 @@ use Rattle.plane.specs.Directions.{Direction, direction, turn, IsClockwise}
 use Rattle.plane.proofs.First.{same_or_not}
 use Rattle.plane.proofs.Turning.{clockwise_apart}
 use Rattle.scaled_plane.specs.declared.drawing.Edge.{Edge}
-use Rattle.scaled_plane.specs.Walks.{ComesAfter, IsDirectedPiece, Follows as FollowsOn, way}
+use Rattle.scaled_plane.specs.Walks.{ComesAfter, way}
 use Rattle.regions.specs.Faces.{IsPlane as IsPlaneDrawing}
 use Rattle.regions.proofs.Drawings.{Piece, piece, IsDirected, IsPlane}
 use Rattle.regions.proofs.Walks.{ComesBefore, Follows}

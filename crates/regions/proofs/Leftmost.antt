@@ -4,23 +4,23 @@ use mathlib.Core.Path.{◌≡◌, refl, sym, ap, subst, ◌∙◌}
 use mathlib.Core.List.{List, [], ◌∷◌}
 use mathlib.Core.Logic.{◌⊎◌, inl, inr}
 use Rattle.std.proofs.Common.{arith}
-use Rattle.std.specs.Prelude.{Contains, length}
+use Rattle.std.specs.Prelude.{length}
 use Rattle.std.specs.Ordering.{ordering_reverse}
 use Rattle.std.specs.declared.cmp.Ordering.{Ordering}
 use Rattle.std.specs.declared.cmp.Ordering.TheVariants.{Less, Equal, Greater}
 use Rattle.algebra.specs.OrderedRing.{OrderedRing}
 use Rattle.algebra.proofs.Solvers.{reads, sign_from, known, no_sign, positive, negative, given, negated}
 use Rattle.plane.specs.declared.point.Point.{Point}
-use Rattle.plane.specs.Points.{point_order, IsPoint, IsSamePoint}
+use Rattle.plane.specs.Points.{point_order, IsSamePoint}
 use Rattle.plane.specs.Segments.{MeetInEnds}
-use Rattle.plane.specs.Directions.{Direction, turn, along, west, Differ}
+use Rattle.plane.specs.Directions.{Direction, turn, west, Differ}
 use Rattle.plane.proofs.First.{same_or_not, IsOne, some_first, ComesFirst}
 use Rattle.plane.proofs.Lines.{same_turned}
 use Rattle.plane.proofs.Members.{in_cons, in_head, in_tail, in_nil}
 use Rattle.plane.proofs.Neighbours.{ways_differ}
 use Rattle.plane.proofs.Order.{order_turned, order_chain, same_of_equal}
 use Rattle.scaled_plane.specs.declared.drawing.Edge.{Edge}
-use Rattle.scaled_plane.specs.Walks.{IsDirectedPiece, IsFirstClockwise, IsOutside, way}
+use Rattle.scaled_plane.specs.Walks.{IsDirectedPiece, IsOutside, way}
 use Rattle.regions.specs.Faces.{IsPlane as IsPlaneDrawing}
 use Rattle.regions.proofs.Drawings.{Piece}
 use Rattle.regions.proofs.Directions.{only_vertex}

@@ -1,7 +1,7 @@
 pub mod Drawings
 pub mod Walks
 pub mod Regions
-pub mod Statements
+pub mod Outermost
 pub mod Parity
 pub mod Splitting
 pub mod Neighbourhoods
@@ -21,7 +21,6 @@ pub mod Outside
 pub mod Growing
 pub mod Followers
 pub mod Empty
-pub mod Faces
 pub mod Pieces
 pub mod Following
 pub mod Rounds

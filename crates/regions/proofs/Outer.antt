@@ -3,7 +3,7 @@ use Prim.Native.Nat.{ℕ}
 use mathlib.Core.Path.{◌≡◌, refl, sym, ap, subst, ◌∙◌}
 use mathlib.Core.List.{List, [], ◌∷◌}
 use mathlib.Core.Logic.{◌⊎◌, inl, inr}
-use Rattle.std.specs.Prelude.{Contains, length, ◌<◌, IsTrue}
+use Rattle.std.specs.Prelude.{length, ◌<◌, IsTrue}
 use Rattle.std.specs.Ordering.{is_ge, is_le, ordering_then, ordering_reverse}
 use Rattle.std.specs.declared.cmp.Ordering.{Ordering}
 use Rattle.std.specs.declared.cmp.Ordering.TheVariants.{Less, Equal, Greater}
@@ -20,8 +20,8 @@ use Rattle.plane.proofs.Signs.{greater_ge, equal_ge}
 use Rattle.scaled_plane.specs.declared.drawing.Edge.{Edge}
 use Rattle.scaled_plane.specs.Walks.{IsOutside, IsDirectedPiece}
 use Rattle.regions.specs.Faces.{IsPlane as IsPlaneDrawing}
-use Rattle.regions.proofs.Drawings.{Piece, piece, IsDirected, IsVertex}
-use Rattle.regions.proofs.Statements.{IsLeast, IsOuter}
+use Rattle.regions.proofs.Drawings.{Piece, piece}
+use Rattle.regions.proofs.Outermost.{IsLeast, IsOuter}
 use Rattle.regions.proofs.Pieces.{place, ps, directed, directed_piece, vertex_point}
 use Rattle.regions.proofs.Following.{turn_side}
 

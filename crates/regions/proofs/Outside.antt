@@ -26,7 +26,7 @@ use Rattle.regions.proofs.InnerPoints.{Ends, ends, directed_ends, beside, beside
 use Rattle.regions.proofs.Corners.{Stars, NearBy, near_by, turn}
 use Rattle.regions.proofs.Walks.{OneWalk}
 use Rattle.regions.proofs.Directions.{directed_back}
-use Rattle.regions.proofs.Statements.{IsOuter}
+use Rattle.regions.proofs.Outermost.{IsOuter}
 use Rattle.regions.proofs.Tracing.{region_then, region_back, mirrored, mirrored_point, mirrored_sign, mirrored_side, star}
 use Rattle.regions.proofs.Different.{OneLeft}
 

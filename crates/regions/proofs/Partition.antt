@@ -1,13 +1,13 @@
 -- Walks part the directed pieces: each has one before it, each walk a least rotation, and one is the outer.
 use Prim.Native.Nat.{ℕ, ◌<◌}
-use mathlib.Core.Path.{◌≡◌, sym, subst}
+use mathlib.Core.Path.{subst}
 use mathlib.Core.List.{List}
-use Rattle.std.specs.Prelude.{Contains, length}
+use Rattle.std.specs.Prelude.{length}
 use Rattle.algebra.specs.OrderedRing.{OrderedRing}
 use Rattle.plane.specs.declared.point.Point.{Point}
 use Rattle.scaled_plane.specs.declared.drawing.Edge.{Edge}
 use Rattle.scaled_plane.specs.Lists.{IsRotation}
-use Rattle.scaled_plane.specs.Walks.{ComesAfter, FollowRound, Follows as FollowsOn, IsDirectedPiece, IsLeastRotation, IsOuterWalk, IsOutside, IsWalk, pieces_round}
+use Rattle.scaled_plane.specs.Walks.{ComesAfter, Follows as FollowsOn, IsDirectedPiece, IsLeastRotation, IsOuterWalk, IsOutside, IsWalk, pieces_round}
 use Rattle.regions.specs.Faces.{IsPlane as IsPlaneDrawing, IsOfWalk}
 use Rattle.regions.proofs.Cycles.{Pair, walk_through}
 use Rattle.regions.proofs.Leftmost.{some_outside}

@@ -1,8 +1,8 @@
 -- The edges of a drawing as pieces between numbered points, with the regions between them.
-use Prim.Native.Nat.{ℕ, zero, suc, ◌<◌}
-use mathlib.Core.Path.{◌≡◌, refl, sym, ap, subst, subst₂, ◌∙◌}
+use Prim.Native.Nat.{ℕ, suc, ◌<◌}
+use mathlib.Core.Path.{◌≡◌, refl, ap, subst, subst₂}
 use mathlib.Core.List.{List, [], ◌∷◌}
-use mathlib.Core.Logic.{◌⊎◌, inl, inr}
+use mathlib.Core.Logic.{inl, inr}
 use Rattle.std.proofs.Common.{arith}
 use Rattle.std.proofs.lemmas.List.{get_or_default}
 use Rattle.std.proofs.lemmas.Bool.{cases_lt}
@@ -20,7 +20,7 @@ use Rattle.scaled_plane.specs.Pieces.{point_at}
 use Rattle.scaled_plane.specs.Walks.{IsDirectedPiece}
 use Rattle.scaled_plane.specs.Regions.{AreInOneRegion, straight as straight_on, bent as bent_on, IsClear as IsClearOf, IsOff as IsOffAll, IsBounded as IsBoxed, SeesPiece}
 use Rattle.regions.specs.Faces.{IsPlane as IsPlaneDrawing}
-use Rattle.regions.proofs.Drawings.{Piece, piece, reversed, Among, IsDirected, OnPiece, IsEnd, MeetInEnds, IsPlane}
+use Rattle.regions.proofs.Drawings.{Piece, piece, Among, IsDirected, OnPiece, IsEnd, MeetInEnds, IsPlane}
 use Rattle.regions.proofs.Regions.{IsOff, IsClear, OneRegion, straight, bent, LeftOf, middle_of, IsBounded}
 
 abbrev pub piece_of : Edge → Piece

@@ -9,7 +9,7 @@ use Rattle.std.proofs.lemmas.List.{append_assoc, append-nil, length-append}
 use Rattle.std.proofs.lemmas.List.Quantifiers.{all_pairs_push}
 use Rattle.std.specs.Prelude.{Contains, AllPairs, length, IsTrue, false}
 use Rattle.std.specs.Cmp.Lexicographic.{slice_cmp}
-use Rattle.std.specs.Ordering.{nat_cmp, is_le, is_gt, ordering_then, ordering_reverse}
+use Rattle.std.specs.Ordering.{nat_cmp, is_le, is_gt, ordering_reverse}
 use Rattle.std.specs.declared.cmp.Ordering.{Ordering}
 use Rattle.std.specs.declared.cmp.Ordering.TheVariants.{Less, Equal, Greater}
 use Rattle.algebra.specs.OrderedRing.{OrderedRing}
@@ -23,7 +23,7 @@ use Rattle.scaled_plane.specs.Walks.{FollowOn, FollowRound, Follows as FollowsOn
 use Rattle.scaled_plane.proofs.After.{after_once}
 use Rattle.regions.specs.Faces.{IsOfWalk}
 use Rattle.regions.proofs.Cycles.{Pair, tails}
-use Rattle.regions.proofs.Rounds.{first_last, last_first}
+use Rattle.regions.proofs.Rounds.{first_last}
 
 -- ---- lists turned round
 

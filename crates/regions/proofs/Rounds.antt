@@ -1,17 +1,17 @@
 -- Walks as lists of corners: the directed pieces of one hold each that is linked with one of them.
 use Prim.Native.Nat.{ℕ}
-use mathlib.Core.Path.{◌≡◌, refl, sym, ap, subst, ◌∙◌}
+use mathlib.Core.Path.{◌≡◌, sym, subst, ◌∙◌}
 use mathlib.Core.List.{List, [], ◌∷◌, ◌++◌}
-use mathlib.Core.Logic.{◌⊎◌, inl, inr}
+use mathlib.Core.Logic.{inl, inr}
 use Rattle.std.specs.Prelude.{Contains}
 use Rattle.algebra.specs.OrderedRing.{OrderedRing}
 use Rattle.plane.specs.declared.point.Point.{Point}
 use Rattle.plane.proofs.Members.{in_cons, in_head, in_tail, in_nil}
 use Rattle.scaled_plane.specs.declared.drawing.Edge.{Edge}
-use Rattle.scaled_plane.specs.Walks.{ComesAfter, FollowOn, FollowRound, Follows as FollowsOn, pieces_round}
+use Rattle.scaled_plane.specs.Walks.{ComesAfter, FollowOn, FollowRound, Follows as FollowsOn}
 use Rattle.scaled_plane.proofs.After.{after_once, before_once}
 use Rattle.regions.specs.Faces.{IsPlane as IsPlaneDrawing}
-use Rattle.regions.proofs.Drawings.{Piece, piece, IsDirected, IsPlane}
+use Rattle.regions.proofs.Drawings.{Piece, piece, IsDirected}
 use Rattle.regions.proofs.Walks.{Follows, OneWalk, Linked, same, onward, back}
 use Rattle.regions.proofs.Followers.{throughout_walk}
 use Rattle.regions.proofs.Pieces.{place, ps, directed, is_plane}

@@ -6,7 +6,7 @@ use mathlib.Core.Logic.{◌⊎◌, inl, inr}
 use lib.IntN.{pos}
 use native.Mathlib.Decide.{ℕ_discrete}
 use Rattle.plane.specs.Lines.{value, determinant, IsAbove, line}
-use Rattle.plane.proofs.Lines.{from_x, from_x_itself, from_y_itself, same_turned, same_by_lines, lines_of_same, value_weight, value_combination, same_vector, weight_line, at_first, at_second, swapped, swapped_last, from_y}
+use Rattle.plane.proofs.Lines.{from_x, from_x_itself, from_y_itself, same_turned, same_by_lines, value_weight, value_combination, same_vector, weight_line, at_first, at_second, swapped, swapped_last, from_y}
 use Rattle.std.specs.Prelude.{IsTrue}
 use Rattle.std.specs.declared.cmp.Ordering.{Ordering}
 use Rattle.std.specs.declared.cmp.Ordering.TheVariants.{Less, Equal, Greater}
@@ -307,18 +307,6 @@ module _ {A : Type 0} (K : OrderedRing A) where
 
     hx : IsPoint K X
     hx = mirrored_point V U hv from.tail_point
-
-    different_x : ¬ IsSamePoint K V X
-    different_x s =
-        from.different (same_turned K (same_by_lines K (
-          own_zero (K.sign (value K.ops (from_x K V) U)) (sym (mirrored_sign (from_x K V) V U hv (from_x_itself K V)) ∙ (lines_of_same K s).0),
-          own_zero (K.sign (value K.ops (from_y K V) U)) (sym (mirrored_sign (from_y K V) V U hv (from_y_itself K V)) ∙ (lines_of_same K s).1),
-        )))
-      where
-        own_zero : (s : Ordering) → ordering_reverse s ≡ Equal → s ≡ Equal
-        own_zero Less e = absurd (cc)
-        own_zero Equal e = refl
-        own_zero Greater e = absurd (cc)
 
     -- no piece at the vertex leads along that ray
     module _ (b : ℕ) (part_w : part_of_turn K place v u w ≡ b) (late : 1 < b) where

@@ -1,4 +1,5 @@
--- Walks: after the directed piece (u, v) comes (v, w), where w is the next neighbour of v clockwise from u.
+-- What follows a directed piece, as the proofs see it: after (u, v) comes (v, w), where no neighbour of v comes before w, clockwise
+-- from u. This order is linear, so that inductions are short; `Following` says that it is that of `ComesAfter`.
 use Prim.Native.Nat.{ℕ, ◌<◌}
 use mathlib.Core.Path.{◌≡◌}
 use mathlib.Core.List.{List}
@@ -10,7 +11,7 @@ use Rattle.std.specs.Ordering.{ordering_index}
 use Rattle.algebra.specs.OrderedRing.{OrderedRing}
 use Rattle.plane.specs.declared.point.Point.{Point}
 use Rattle.plane.specs.Lines.{side}
-use Rattle.regions.proofs.Drawings.{Piece, piece, Among, IsDirected}
+use Rattle.regions.proofs.Drawings.{Piece, piece, IsDirected}
 
 -- R leads from d to e, through as many others as it may, forwards or back
 pub data Linked {D : Type 0} (R : D → D → Type 0) : D → D → Type 0 where
@@ -38,8 +39,3 @@ module _ {A : Type 0} (K : OrderedRing A) (place : ℕ → Point A) where
   -- d and e are in one walk
   abbrev pub OneWalk : List Piece → Piece → Piece → Type 0
   OneWalk ps d e = Linked (Follows ps) d e
-
-  -- these directed pieces hold each one that follows one of them, or that one of them follows
-  pub record IsRound (ps ds : List Piece) : Type 0 where
-    pub next : (d : Piece) → Among ds d → (e : Piece) × Among ds e × Follows ps d e
-    pub previous : (e : Piece) → Among ds e → (d : Piece) × Among ds d × Follows ps d e
