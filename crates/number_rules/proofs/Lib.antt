@@ -7,3 +7,5 @@ mod Exponents
 mod Nearest
 mod RootSearch
 mod OneA
+mod WholeTexts
+mod ExactTexts

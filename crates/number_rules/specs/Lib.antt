@@ -4,3 +4,5 @@ pub mod Cut
 pub mod Rows
 pub mod Search
 pub mod Kept
+pub mod ExactText
+pub mod WholeText

@@ -1,9 +1,22 @@
-ghost use Rattle.std.specs.Prelude.{◌≡◌, ℕ, ℤ, ◌≤◌};
+ghost use Rattle.std.specs.Prelude.{◌≡◌, ℕ, ℤ, ◌≤◌, Result, Ok};
 ghost use Rattle.algebra.specs.Surd.{IsNonsquare};
+ghost use Rattle.algebra.specs.LowestTerms.{Parts, IsNumber};
+ghost use Rattle.algebra.specs.NumberField.{HoldsNumbers};
+ghost use Rattle.number_rules.specs.ExactText.{exact_text_of, AreShort, ReadsExactText};
 ghost use Rattle.number_rules.specs.Rows.{IsNear};
+ghost use Rattle.number_rules.specs.declared.unread.Unread.{Unread};
 
 /// For each b there's at most one a with which (a+b√k)/n is near enough to a decimal.
 pub fn one_a_at_each_b()
     ensures { (k n : ℕ) → IsNonsquare k → n ≤ 1000000 → (near a c b : ℤ)
         → IsNear k n near a b → IsNear k n near c b → a ≡ c }
+{}
+
+/// Of the text of a number its own value is read, and of a rational number's text the number over √2 with the same parts:
+/// where each part is at most 2^92 in size.
+pub fn texts_are_read_back<N>()
+    ensures same { (k : ℕ) (parts : N → Parts) → HoldsNumbers k parts → (x : N) (r : Result N Unread)
+        → AreShort (parts x) → ReadsExactText k parts (exact_text_of k (parts x)) r → r ≡ Ok x }
+    ensures rational { (parts : N → Parts) (p : Parts) (r : Result N Unread) → IsNumber 1 p → AreShort p
+        → ReadsExactText 2 parts (exact_text_of 1 p) r → (y : N) × (r ≡ Ok y) × (parts y ≡ p) }
 {}

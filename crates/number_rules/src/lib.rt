@@ -8,10 +8,13 @@ mod readers;
 mod rule;
 mod scan;
 mod search;
+mod texts;
 mod unread;
+mod whole_text;
 
 pub use decimal::{Decimal, read_decimal};
-pub use laws::one_a_at_each_b;
+pub use laws::{one_a_at_each_b, texts_are_read_back};
 pub use readers::{read_exact, read_grid, read_root_three, read_root_two};
 pub use rule::{NumberRule, exact_rule, grid_rule, root_three_rule, root_two_rule};
+pub use texts::{exact_text, read_exact_text};
 pub use unread::{Row, Unread};
