@@ -1,5 +1,5 @@
 -- words and bytes have one outcome
-use Rattle.std.proofs.Common.{◌≡◌, ◌⊎◌, ℕ, List, ◌∷◌, [], ◌++◌, length, inl, inr, refl, sym, ◌∙◌, ap, arith, subst}
+use Rattle.std.proofs.Common.{◌≡◌, ◌⊎◌, None, Some, ℕ, List, ◌∷◌, [], ◌++◌, length, inl, inr, refl, sym, ◌∙◌, ap, arith, subst}
 use Rattle.std.specs.declared.option.Option.{Option}
 use Rattle.std.proofs.lemmas.Bool.{cases_lt}
 use Rattle.fold_base.specs.declared.outside.TheConstants.{MOST_BYTES}
@@ -8,14 +8,18 @@ use Rattle.cp_lines.specs.Print as cp_form
 use Rattle.cp_lines.specs.Reads as cp
 use Rattle.json_tree.specs.PrintedForm as json_form
 use Rattle.json_tree.specs.Spells.{Spells}
+use Rattle.json_tree.specs.declared.tree.Json.{Json}
 use Rattle.json_read.specs.Causes as json
+use Rattle.fold_keys.specs.Shape.{misfit_of_file}
+use Rattle.fold_keys.specs.declared.fault.ShapeFault.{ShapeFault}
 use Rattle.fold_program.specs.Status.{IsFailure}
 use Rattle.fold_program.specs.Words.{TakeNothing}
-use Rattle.fold_program.specs.Outcome.{HaveFault, Spell, AreUnread, AreRead, Makes, format_of, IsOutcome, AreInput, AreLeft, KeepsToOutcome, HasOutcome, HaveOutcome, HaveAtMostOneOutcome}
+use Rattle.fold_program.specs.Outcome.{HaveFault, Spell, AreUnread, AreRead, HasMisfit, IsFileTree, Makes, format_of, IsOutcome, AreInput, AreLeft, KeepsToOutcome, HasOutcome, HaveOutcome, HaveAtMostOneOutcome}
 use Rattle.fold_program.specs.declared.input.Input.{Input}
 use Rattle.fold_program.specs.declared.input.Input.TheVariants as input
 use Rattle.fold_program.specs.declared.status.Status.{Status}
-use Rattle.fold_program.specs.declared.status.Status.TheVariants.{Done, Text, Read, Write, Limit, Memory}
+use Rattle.fold_program.specs.declared.status.Status.TheVariants.{Done, Text, Shape, Read, Write, Limit, Memory}
+use Rattle.fold_program.specs.declared.status.ShapeCause.TheVariants.{Key}
 use Rattle.fold_program.specs.declared.status.TextFault.TheVariants as faults
 use Rattle.fold_program.specs.declared.status.Limit.TheVariants.{TooLong}
 use Rattle.fold_program.specs.declared.words.Command.{Command}
@@ -84,14 +88,33 @@ reading_goes one format bytes = elim (cases_lt MOST_BYTES (length bytes)) [
   | inr few ↦ elim (spelled_or_faulty one format bytes) [ inl p ↦ inl (p.0, inr (few, p.1)) | inr p ↦ inr (p.0, (few, p.1)) ]
 ]
 
+-- ---- FOLD's keys
+
+fits_or_not : (found : Option ShapeFault) (fault : ShapeFault) → found ≡ Some fault → found ≡ None → ⊥
+fits_or_not found fault some none = let no : Some fault ≡ None = sym some ∙ none in cc
+
+keys_step : (tree : Json) → IsStep (HasMisfit tree) (IsFileTree tree)
+keys_step tree = record {
+  one_stop = λ s s' p q. let same : Some p.0 ≡ Some q.0 = sym p.1 ∙ q.1 in let fault : p.0 ≡ q.0 = cc in p.2 ∙ ap (λ f. Shape (Key f)) fault ∙ sym q.2;
+  one_value = λ x x' p q. p.0 ∙ sym q.0;
+  apart = λ s x p q. fits_or_not (misfit_of_file tree) p.0 p.1 q.1;
+}
+
+keys_go : (tree : Json) → Goes (HasMisfit tree) (IsFileTree tree)
+keys_go tree = go (misfit_of_file tree) refl
+  where
+    go : (found : Option ShapeFault) → misfit_of_file tree ≡ found → Goes (HasMisfit tree) (IsFileTree tree)
+    go None none = inr (tree, (refl, none))
+    go (Some fault) some = inl (Shape (Key fault), (fault, some, refl))
+
 -- ---- the commands
 
 one_made : (command : Command) (spelled : Input) → IsOne (Makes command spelled)
-one_made (Show options) (input.Fold tree) = one_answer _
+one_made (Show options) (input.Fold tree) = one_then _ _ _ (keys_step tree) (λ of_file h. one_answer _)
 one_made (Show options) (input.Cp lines) = one_answer _
 
 some_made : (command : Command) (spelled : Input) → Comes (Makes command spelled)
-some_made (Show options) (input.Fold tree) = (Done, json_form.printed_form tree ++ 10 ∷ [], (refl, refl))
+some_made (Show options) (input.Fold tree) = some_then _ _ _ (keys_go tree) (λ of_file h. (Done, json_form.printed_form of_file ++ 10 ∷ [], (refl, refl)))
 some_made (Show options) (input.Cp lines) = (Done, cp_form.printed_form lines, (refl, refl))
 
 -- ---- words and bytes

@@ -5,11 +5,14 @@ use Rattle.fold_base.specs.Outside.{Gains, Rose}
 use Rattle.fold_program.specs.Status.{IsAnswer}
 use Rattle.cp_lines.specs.FaultText as cp
 use Rattle.json_read.specs.FaultText as json
+use Rattle.fold_keys.specs.FaultText as keys
 use Rattle.fold_program.specs.declared.status.Status.{Status}
-use Rattle.fold_program.specs.declared.status.Status.TheVariants.{Done, Text, Words, Read, Write}
-use Rattle.fold_program.specs.declared.status.Status.TheVariants.{Limit, Memory}
+use Rattle.fold_program.specs.declared.status.Status.TheVariants.{Done, Text, Shape, Words}
+use Rattle.fold_program.specs.declared.status.Status.TheVariants.{Read, Write, Limit, Memory}
 use Rattle.fold_program.specs.declared.status.TextFault.{TextFault}
 use Rattle.fold_program.specs.declared.status.TextFault.TheVariants.{Json, Cp}
+use Rattle.fold_program.specs.declared.status.ShapeCause.{ShapeCause}
+use Rattle.fold_program.specs.declared.status.ShapeCause.TheVariants.{Key}
 use Rattle.fold_program.specs.declared.status.WordsCause.{WordsCause}
 use Rattle.fold_program.specs.declared.status.WordsCause.TheVariants.{Refused, Value}
 use Rattle.fold_program.specs.declared.status.Limit.{Limit as AnyLimit}
@@ -19,6 +22,10 @@ use Rattle.fold_program.specs.declared.status.Limit.TheVariants.{TooLong}
 abbrev pub text_message : TextFault → List ℕ
 text_message (Json fault) = json.fault_text fault
 text_message (Cp fault) = cp.fault_text fault
+
+-- what is said of what isn't as the command asks for
+abbrev pub shape_message : ShapeCause → List ℕ
+shape_message (Key fault) = keys.fault_text fault
 
 -- what is said of words that are refused
 abbrev pub words_message : WordsCause → List ℕ
@@ -33,6 +40,7 @@ limit_message TooLong = codes "too long"
 abbrev pub message : Status → List ℕ
 message Done = codes "done"
 message (Text fault) = text_message fault
+message (Shape cause) = shape_message cause
 message (Words cause) = words_message cause
 message Read = codes "read failed"
 message Write = codes "write failed"

@@ -12,15 +12,24 @@ use Rattle.cp_lines.specs.declared.fault.CpFault.{CpFault}
 use Rattle.json_tree.specs.PrintedForm as json_form
 use Rattle.json_tree.specs.Spells.{Spells}
 use Rattle.json_tree.specs.Tree.{IsProper}
+use Rattle.json_tree.specs.declared.tree.Json.{Json}
 use Rattle.json_read.specs.Causes as json
 use Rattle.json_read.specs.declared.fault.JsonFault.{JsonFault}
+use Rattle.fold_keys.specs.Shape.{misfit_of_file}
+use Rattle.fold_keys.specs.Short.{HasShortLists, HasShortSpec}
+use Rattle.fold_keys.specs.Trees.{tree_of_file}
+use Rattle.fold_keys.specs.Writable.{IsWritable}
+use Rattle.fold_keys.specs.declared.fault.ShapeFault.{ShapeFault}
+use Rattle.fold_keys.specs.declared.value.FoldFile.{FoldFile}
 use Rattle.fold_program.specs.Status.{IsAnswer, IsFailure}
 use Rattle.fold_program.specs.Steps.{Outcome, Then, Answers}
 use Rattle.fold_program.specs.Words.{AreWordsOf, AreRefused, TakeNothing}
 use Rattle.fold_program.specs.declared.input.Input.{Input}
 use Rattle.fold_program.specs.declared.input.Input.TheVariants as input
 use Rattle.fold_program.specs.declared.status.Status.{Status}
-use Rattle.fold_program.specs.declared.status.Status.TheVariants.{Text, Read, Write, Limit, Memory}
+use Rattle.fold_program.specs.declared.status.Status.TheVariants.{Text, Shape}
+use Rattle.fold_program.specs.declared.status.Status.TheVariants.{Read, Write, Limit, Memory}
+use Rattle.fold_program.specs.declared.status.ShapeCause.TheVariants.{Key}
 use Rattle.fold_program.specs.declared.status.TextFault.TheVariants as faults
 use Rattle.fold_program.specs.declared.status.Limit.TheVariants.{TooLong}
 use Rattle.fold_program.specs.declared.words.Command.{Command}
@@ -63,9 +72,16 @@ HasFormat Fold (input.Fold tree) = Unit {0}
 HasFormat Cp (input.Cp lines) = Unit {0}
 HasFormat _ _ = ⊥
 
--- what is so of all that is read: a tree is proper, and a line's kind is one of its format
+-- a tree that FOLD's keys can be read from
+pub record IsSoundTree (tree : Json) : Type 0 where
+  pub proper : IsProper tree
+  pub lists : HasShortLists tree
+  pub version : HasShortSpec tree
+
+-- what is so of all that is read: FOLD's keys can be read from a tree, and a line's kind is one of
+-- its format
 abbrev pub IsSound : Input → Type 0
-IsSound (input.Fold tree) = IsProper tree
+IsSound (input.Fold tree) = IsSoundTree tree
 IsSound (input.Cp lines) = All (λ line. line.kind ≤ 4) lines
 
 -- what reading answers: what the bytes spell, a status where they aren't read, or that reading or
@@ -77,9 +93,28 @@ IsReading format bytes (Err status) =
 
 -- ---- the commands
 
--- what was read, in its printed form; that of a tree becomes a line
+-- the tree isn't of FOLD's shape, and the status names its first misfit
+abbrev pub HasMisfit : Json → Status → Type 0
+HasMisfit tree status =
+    (fault : ShapeFault) × (misfit_of_file tree ≡ Some fault) × (status ≡ Shape (Key fault))
+
+-- the tree is of FOLD's shape, and it is the tree of the file that is read from it
+abbrev pub IsFileTree : Json → Json → Type 0
+IsFileTree tree of_file = (of_file ≡ tree) × (misfit_of_file tree ≡ None)
+
+-- this is the file that was read from the tree
+abbrev pub IsReadFrom : Json → FoldFile → Type 0
+IsReadFrom tree file = IsFileTree tree (tree_of_file file) × IsWritable file
+
+-- a tree is refused at its first misfit, or else shown in its printed form, which becomes a line
+abbrev pub ShowsTree : Json → Outcome
+ShowsTree tree =
+    Then (HasMisfit tree) (IsFileTree tree)
+    (λ of_file. Answers (json_form.printed_form of_file ++ 10 ∷ []))
+
+-- what was read, in its printed form
 abbrev pub Shows : Input → Outcome
-Shows (input.Fold tree) = Answers (json_form.printed_form tree ++ 10 ∷ [])
+Shows (input.Fold tree) = ShowsTree tree
 Shows (input.Cp lines) = Answers (cp_form.printed_form lines)
 
 -- the format that a command reads

@@ -9,10 +9,13 @@ use Rattle.cp_lines.specs.declared.fault.CpReadFault.{CpReadFault}
 use Rattle.cp_lines.specs.declared.fault.CpReadFault.TheVariants as cp
 use Rattle.json_read.specs.declared.fault.JsonReadFault.{JsonReadFault}
 use Rattle.json_read.specs.declared.fault.JsonReadFault.TheVariants as json
+use Rattle.fold_keys.specs.declared.fault.FoldFault.{FoldFault}
+use Rattle.fold_keys.specs.declared.fault.FoldFault.TheVariants as keys
 use Rattle.fold_program.specs.declared.status.Status.{Status}
-use Rattle.fold_program.specs.declared.status.Status.TheVariants.{Done, Text, Words, Read, Write}
-use Rattle.fold_program.specs.declared.status.Status.TheVariants.{Limit, Memory}
+use Rattle.fold_program.specs.declared.status.Status.TheVariants.{Done, Text, Shape, Words}
+use Rattle.fold_program.specs.declared.status.Status.TheVariants.{Read, Write, Limit, Memory}
 use Rattle.fold_program.specs.declared.status.TextFault.TheVariants.{Json, Cp}
+use Rattle.fold_program.specs.declared.status.ShapeCause.TheVariants.{Key}
 use Rattle.fold_program.specs.declared.status.WordsCause.TheVariants.{Refused}
 use Rattle.fold_program.specs.declared.status.Limit.TheVariants.{TooLong}
 
@@ -20,6 +23,7 @@ use Rattle.fold_program.specs.declared.status.Limit.TheVariants.{TooLong}
 abbrev pub code_of : Status → ℕ
 code_of Done = 0
 code_of (Text fault) = 2
+code_of (Shape cause) = 3
 code_of (Words cause) = 6
 code_of Read = 7
 code_of Write = 8
@@ -58,6 +62,11 @@ of_json (json.Memory error) = Memory
 abbrev pub of_cp : CpReadFault → Status
 of_cp (cp.Text fault) = Text (Cp fault)
 of_cp (cp.Memory error) = Memory
+
+-- the status where a tree isn't read as a FOLD file
+abbrev pub of_keys : FoldFault → Status
+of_keys (keys.Shape fault) = Shape (Key fault)
+of_keys (keys.Memory error) = Memory
 
 -- the status where `clap` doesn't take the words: want of memory is no fault of theirs
 abbrev pub IsOfWords : Error → Status → Type 0

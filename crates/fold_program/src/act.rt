@@ -1,13 +1,14 @@
 // What the commands do.
-ghost use Rattle.fold_program.specs.Steps.{Follows};
-ghost use Rattle.fold_program.specs.Outcome.{HasFormat, IsSound, Makes, Shows, format_of};
+ghost use Rattle.fold_program.specs.Steps.{Follows, Steps};
+ghost use Rattle.fold_program.specs.Outcome.{HasFormat, HasMisfit, IsReadFrom, IsSound, IsSoundTree, Makes, Shows, ShowsTree, format_of};
 
 use crate::input::Input;
 use crate::status::Status;
 use crate::words::Command;
 use cp_lines::print_cp;
 use fold_base::Text;
-use json_tree::print;
+use fold_keys::{FoldFile, from_json, to_json};
+use json_tree::{Json, print};
 use std::alloc::Global;
 
 /// The text that the command makes of what was read.
@@ -17,21 +18,36 @@ pub fn act(alloc: Global, command: &Command, input: Input) -> Result<Text, Statu
     ensures { Follows (Makes command.now input) result }
 {
     match command {
-        Command::Show(_) => show(alloc, &input),
+        Command::Show(_) => show(alloc, input),
     }
 }
 
 /// The printed form of what was read.
-fn show(alloc: Global, input: &Input) -> Result<Text, Status>
-    requires { IsSound input.now }
-    ensures { Follows (Shows input.now) result }
+fn show(alloc: Global, input: Input) -> Result<Text, Status>
+    requires { IsSound input }
+    ensures { Follows (Shows input) result }
 {
     match input {
-        Input::Fold(tree) => {
-            let mut text = print(alloc, tree)?;
-            text.push('\n')?;
-            Ok(text)
-        }
-        Input::Cp(lines) => Ok(print_cp(alloc, lines)?),
+        Input::Fold(tree) => show_tree(alloc, tree),
+        Input::Cp(lines) => Ok(print_cp(alloc, &lines)?),
     }
+}
+
+/// The printed form of a file, in a line.
+fn show_tree(alloc: Global, tree: Json) -> Result<Text, Status>
+    requires { IsSoundTree tree }
+    ensures { Follows (ShowsTree tree) result }
+{
+    let file = read_file(alloc, tree)?;
+    let mut text = print(alloc, &to_json(alloc, &file)?)?;
+    text.push('\n')?;
+    Ok(text)
+}
+
+/// FOLD's keys: the file that the tree is, or its first misfit.
+fn read_file(alloc: Global, tree: Json) -> Result<FoldFile, Status>
+    requires { IsSoundTree tree }
+    ensures { Steps (HasMisfit tree) (IsReadFrom tree) result }
+{
+    Ok(from_json(alloc, tree)?)
 }

@@ -9,6 +9,7 @@ use crate::status::Status;
 use crate::words::Format;
 use cp_lines::{CpLine, read_cp};
 use fold_base::{List, MOST_BYTES, PieceTaker, ReadFault, Source, read_pieces};
+use fold_keys::read_trees_are_readable;
 use json_read::JsonReader;
 use json_tree::Json;
 use std::alloc::Global;
@@ -33,6 +34,7 @@ pub fn read_input<S: Source>(alloc: Global, format: Format, source: &mut S) -> R
 {
     match format {
         Format::Fold => {
+            read_trees_are_readable();
             let reader = read_whole(source, JsonReader::new(alloc))?;
             Ok(Input::Fold(reader.finish()?))
         }

@@ -4,6 +4,7 @@ ghost use Rattle.std.specs.Prelude.{◌≡◌};
 use clap::error::ErrorKind;
 use cp_lines::{CpFault, CpReadFault};
 use fold_base::ReadFault;
+use fold_keys::{FoldFault, ShapeFault};
 use json_read::{JsonFault, JsonReadFault};
 use std::alloc::AllocError;
 use std::fmt;
@@ -13,6 +14,7 @@ pub enum Status {
     /// The text that the words ask for was written whole.
     Done,
     Text(TextFault),
+    Shape(ShapeCause),
     Words(WordsCause),
     /// The input can't be read to its end.
     Read,
@@ -28,6 +30,13 @@ pub enum Status {
 pub enum TextFault {
     Json(JsonFault),
     Cp(CpFault),
+}
+
+/// Why what was read isn't as the command asks for.
+#[derive(Debug, PartialEq, Eq, Drop)]
+pub enum ShapeCause {
+    /// What stands at a key of FOLD isn't of the key's kind.
+    Key(ShapeFault),
 }
 
 #[derive(Clone, Copy, Debug, PartialEq, Eq)]
@@ -54,6 +63,7 @@ impl Status {
         match self {
             Status::Done => 0,
             Status::Text(_) => 2,
+            Status::Shape(_) => 3,
             Status::Words(_) => 6,
             Status::Read => 7,
             Status::Write => 8,
@@ -113,6 +123,19 @@ impl From<CpReadFault> for Status {
     }
 }
 
+impl From<FoldFault> for Status {
+    ghost use Rattle.fold_program.specs.Status.{of_keys};
+
+    ghost from_gives = { λ fault status. status ≡ of_keys fault };
+
+    fn from(fault: FoldFault) -> Status {
+        match fault {
+            FoldFault::Shape(fault) => Status::Shape(ShapeCause::Key(fault)),
+            FoldFault::Memory(_) => Status::Memory,
+        }
+    }
+}
+
 impl From<clap::Error> for Status {
     ghost use Rattle.fold_program.specs.Status.{IsOfWords};
 
@@ -147,6 +170,7 @@ impl fmt::Display for Status {
         match self {
             Status::Done => f.write_str("done"),
             Status::Text(fault) => write!(f, "{fault}"),
+            Status::Shape(cause) => write!(f, "{cause}"),
             Status::Words(cause) => write!(f, "{cause}"),
             Status::Read => f.write_str("read failed"),
             Status::Write => f.write_str("write failed"),
@@ -171,6 +195,21 @@ impl fmt::Display for TextFault {
 }
 
 impl std::error::Error for TextFault {}
+
+impl fmt::Display for ShapeCause {
+    ghost use Rattle.std.specs.Prelude.{Some};
+    ghost use Rattle.fold_program.specs.Notes.{shape_message};
+
+    ghost output = { λ cause. Some (shape_message cause) };
+
+    fn fmt<W: fmt::Write>(&self, f: &mut fmt::Formatter<W>) -> fmt::Result {
+        match self {
+            ShapeCause::Key(fault) => write!(f, "{fault}"),
+        }
+    }
+}
+
+impl std::error::Error for ShapeCause {}
 
 impl fmt::Display for WordsCause {
     ghost use Rattle.std.specs.Prelude.{Some};

@@ -1,9 +1,10 @@
 use crate::arguments::words_after_name;
 use crate::run::{run, run_calm};
-use crate::status::{Limit, Status, TextFault, WordsCause};
+use crate::status::{Limit, ShapeCause, Status, TextFault, WordsCause};
 use crate::words::{Command, Format, ShowOptions, read_words};
 use cp_lines::{CpCause, CpFault};
-use fold_base::{CalmSink, List, MemorySink, MemorySource};
+use fold_base::{CalmSink, List, MemorySink, MemorySource, Text};
+use fold_keys::{ShapeFault, ShapeKind};
 use json_read::{JsonCause, JsonFault};
 use std::alloc::{AllocError, Global};
 use std::env::{Env, FillError};
@@ -87,6 +88,27 @@ fn faulty_fold<'a>(input: &'a [u8], place: u32, cause: JsonCause, notes: &'a [u8
     }
 }
 
+/// FOLD text that is refused at its first misfit.
+fn misfit<'a>(
+    alloc: Global,
+    input: &'a [u8],
+    place: (u32, &str, u32, ShapeKind),
+    notes: &'a [u8],
+) -> Result<Row<'a>, AllocError> {
+    let (frame, key, index, cause) = place;
+    let fault = ShapeFault {
+        frame,
+        key: Text::from_text(alloc, key)?,
+        index,
+        cause,
+    };
+    Ok(Row {
+        status: Status::Shape(ShapeCause::Key(fault)),
+        notes,
+        ..shown_fold(input, b"")
+    })
+}
+
 /// Words that are refused. A source that is asked for bytes fails.
 fn refused<'a>(words: &'a [&'a str], cause: WordsCause, notes: &'a [u8]) -> Row<'a> {
     Row {
@@ -138,7 +160,11 @@ fn shows_fold_text(rt: HostRuntime) -> Result<(), Fail> {
             pieces: (1, 1),
             ..shown_fold(text, printed)
         },
-        shown_fold(b"[1]", b"[1]\n"),
+        shown_fold(
+            b"{\"file_frames\": [{\"frame_title\": \"a\"}], \"a:b\": [1.0]}",
+            b"{\"file_frames\":[{\"frame_title\":\"a\"}],\"a:b\":[1.0]}\n",
+        ),
+        shown_fold(b" {} ", b"{}\n"),
     ];
     for row in rows {
         check(&rt, rt.alloc(), row)?;
@@ -180,6 +206,69 @@ fn names_the_first_fault_of_fold_text(rt: HostRuntime) -> Result<(), Fail> {
             ..faulty_fold(input, place, cause, notes)
         };
         check(&rt, rt.alloc(), byte_by_byte)?;
+    }
+    Ok(())
+}
+
+#[test]
+fn names_the_first_misfit(rt: HostRuntime) -> Result<(), Fail> {
+    use ShapeKind::{Length, Letter, NotKind, Side, Spec};
+    let rows: [(&[u8], (u32, &str, u32, ShapeKind), &[u8]); 10] = [
+        (
+            b"[1]",
+            (0, "", 0, NotKind),
+            b"fold_program: frame 0 key  index 0: not kind\n",
+        ),
+        (
+            b"\"file_spec\"",
+            (0, "", 0, NotKind),
+            b"fold_program: frame 0 key  index 0: not kind\n",
+        ),
+        (
+            b"1.1",
+            (0, "", 0, NotKind),
+            b"fold_program: frame 0 key  index 0: not kind\n",
+        ),
+        (
+            b"{\"file_spec\":1.3}",
+            (0, "file_spec", 0, Spec),
+            b"fold_program: frame 0 key file_spec index 0: spec\n",
+        ),
+        (
+            b"{\"edges_assignment\":[\"B\",\"m\"]}",
+            (0, "edges_assignment", 1, Letter),
+            b"fold_program: frame 0 key edges_assignment index 1: letter\n",
+        ),
+        (
+            b"{\"faceOrders\":[[0,1,2]]}",
+            (0, "faceOrders", 0, Side),
+            b"fold_program: frame 0 key faceOrders index 0: side\n",
+        ),
+        (
+            b"{\"vertices_coords\":[[0]]}",
+            (0, "vertices_coords", 0, Length),
+            b"fold_program: frame 0 key vertices_coords index 0: length\n",
+        ),
+        (
+            b"{\"edges_vertices\":[[0,1.0]]}",
+            (0, "edges_vertices", 0, NotKind),
+            b"fold_program: frame 0 key edges_vertices index 0: not kind\n",
+        ),
+        (
+            b"{\"file_frames\":[{\"frame_title\":1}],\"file_spec\":1.2}",
+            (1, "frame_title", 0, NotKind),
+            b"fold_program: frame 1 key frame_title index 0: not kind\n",
+        ),
+        (
+            b"{\"file_frames\":[{\"frame_title\":1}],\"file_spec\":2}",
+            (0, "file_spec", 0, Spec),
+            b"fold_program: frame 0 key file_spec index 0: spec\n",
+        ),
+    ];
+    for (input, place, notes) in rows {
+        let row = misfit(rt.alloc(), input, place, notes)?;
+        assert_eq!(rt; row.status.code(), 3);
+        check(&rt, rt.alloc(), row)?;
     }
     Ok(())
 }

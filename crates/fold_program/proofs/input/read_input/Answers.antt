@@ -1,7 +1,8 @@
-use Rattle.std.proofs.Common.{◌≡◌, Err, ap, rules, subst, sym}
+use Rattle.std.proofs.Common.{◌≡◌, Err, ap, length, rules, subst, sym}
 use Rattle.std.proofs.lemmas.Result.{err_from_is_err_and}
 use Rattle.cp_lines.specs.Reads.{Reads}
 use Rattle.cp_lines.specs.CpText.{CpText}
+use Rattle.json_tree.specs.Tree.{HasLengthsUpTo}
 use Rattle.fold_program.specs.Status.{of_cp}
 use Rattle.fold_program.specs.Outcome.{IsReading, Spell}
 use Rattle.fold_program.specs.declared.input.Input.TheVariants as input
@@ -37,3 +38,14 @@ returns-in_ok-read_cp-in-Cp-clause-answer g c =
     let text : c.as_slice.result.now ≡ all.0 = search rules in
     let spelled : CpText all.0 c.in_ok-read_cp-in-Cp.field-0 = subst (λ b. CpText b c.in_ok-read_cp-in-Cp.field-0) text c.in_ok-read_cp-in-Cp.ensures.answer in
     (all.0, all.1, (all.3, subst (λ f. Spell f all.0 (input.Cp c.in_ok-read_cp-in-Cp.field-0)) (sym format) spelled))
+
+pub returns-in_ok-finish-in-Fold-clause-sound : goal.returns-in_ok-finish-in-Fold-clause-sound
+returns-in_ok-finish-in-Fold-clause-sound g c =
+    let all = c.in_ok-reader-in-Fold.ensures.all in
+    let tree = c.in_ok-finish-in-Fold.field-0 in
+    let lengths : HasLengthsUpTo (length all.0) tree = c.in_ok-finish-in-Fold.ensures.lengths all.0 all.2 in
+    record {
+      proper = c.in_ok-finish-in-Fold.ensures.proper all.0 all.2;
+      lists = c.read_trees_are_readable.ensures.lists (length all.0) tree all.3 lengths;
+      version = c.read_trees_are_readable.ensures.version (length all.0) tree all.3 lengths;
+    }
