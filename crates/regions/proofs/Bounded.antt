@@ -15,16 +15,18 @@ use Rattle.std.specs.declared.cmp.Ordering.{Ordering}
 use Rattle.std.specs.declared.cmp.Ordering.TheVariants.{Less, Equal}
 use Rattle.algebra.specs.OrderedRing.{OrderedRing}
 use Rattle.plane.specs.declared.point.Point.{Point}
+use Rattle.plane.specs.Points.{IsPoint}
+use Rattle.plane.specs.Segments.{middle}
 use Rattle.scaled_plane.specs.declared.drawing.Edge.{Edge}
 use Rattle.scaled_plane.specs.declared.drawing.Face.{Face}
 use Rattle.scaled_plane.specs.Lists.{IsReached, begun, gone_on, IsRotation}
-use Rattle.scaled_plane.specs.Regions.{HasAtLeft, IsBounded as IsBoxed, SeesPiece}
+use Rattle.scaled_plane.specs.Regions.{IsOff as IsOffAll, HasAtLeft, IsBounded as IsBoxed, SeesPiece}
 use Rattle.scaled_plane.specs.Walks.{AreFaces, IsDirectedPiece, IsFaceWalk, IsLeastRotation, IsOuterWalk, IsOutside, IsWalk, pieces_round}
 use Rattle.regions.specs.Faces.{IsPlane as IsPlaneDrawing, IsConnected as IsJoinedDrawing, IsOfWalk, WalkHasAtLeft, WalksHaveRegions, FacesAreBounded, AreBoundedRegions}
 use Rattle.regions.proofs.Drawings.{Piece, piece, Among, IsDirected, IsPlane, IsConnected, Route, arrived, via}
 use Rattle.regions.proofs.Regions.{LeftOf, OneRegion, IsBounded}
 use Rattle.regions.proofs.Walks.{OneWalk, same}
-use Rattle.regions.proofs.Directions.{directed_back}
+use Rattle.regions.proofs.Directions.{directed_back, on_first, on_first_share}
 use Rattle.regions.proofs.Tracing.{region_then, region_back}
 use Rattle.regions.proofs.Outermost.{IsOuter}
 use Rattle.regions.proofs.AlongWalks.{one_region as region_of_walk}
@@ -34,7 +36,7 @@ use Rattle.regions.proofs.Growing.{one_walk_of_connected}
 use Rattle.regions.proofs.Outside.{outer_unbounded, inner_bounded as inside_bounded}
 use Rattle.regions.proofs.Different.{OneLeft}
 use Rattle.regions.proofs.Pieces.{place, ps, piece_of, pieces_of, among_pieces, directed, directed_piece, off_pieces, region_of, region_on, bounded_of, bounded_on, left_of, sees_of, is_plane}
-use Rattle.regions.proofs.Rounds.{linked_back, all_linked, all_directed, walk_holds}
+use Rattle.regions.proofs.Rounds.{linked_back, some_piece, all_linked, all_directed, walk_holds}
 use Rattle.regions.proofs.Cycles.{walk_through}
 use Rattle.regions.proofs.Leftmost.{some_outside}
 use Rattle.regions.proofs.Partition.{least_walk}
@@ -91,6 +93,29 @@ module _ {A : Type 0} (K : OrderedRing A) (vertices : List (Point A)) (edges : L
 
   left_point : (d : Piece) → IsDirected all d → (p : Point A) × LeftOf K at all d p
   left_point d hd = some_left K at all plane d hd (middle_inner K at all plane d hd)
+
+  -- a point that sees a piece is in its region
+  itself : (d : Piece) → IsDirected all d → (p : Point A) → LeftOf K at all d p → OneRegion K at all p p
+  itself d hd p k = region_of_walk K at all plane d d hd same p p k k
+
+  -- and off all pieces
+  off_all : (u v : ℕ) (p : Point A) → SeesPiece K vertices edges u v p → IsOffAll K vertices edges p
+  off_all u v p s e i = s.clear e i p (on_first K p (middle K.ops (at u) (at v))) (on_first_share K p (middle K.ops (at u) (at v)))
+
+  point_of_walk : (corners : List ℕ) → IsWalk K vertices edges corners
+      → (q : Point A) × IsPoint K q × IsOffAll K vertices edges q × WalkHasAtLeft K vertices edges corners q
+  point_of_walk corners w =
+      let first : (x : ℕ × ℕ) × Contains (pieces_round corners) x = some_piece K vertices edges h (pieces_round corners) w.follow in
+      let u : ℕ = first.0.0 in
+      let v : ℕ = first.0.1 in
+      let d : IsDirected all (piece u v) = all_directed K vertices edges h (pieces_round corners) w.follow first.0 first.1 in
+      let r : (p : Point A) × LeftOf K at all (piece u v) p = left_point (piece u v) d in
+      let sees : SeesPiece K vertices edges u v r.0 = sees_of K vertices edges u v r.0 r.1 in (
+        r.0,
+        sees.point,
+        off_all u v r.0 sees,
+        (u, v, first.1, (r.0, sees, region_on K vertices edges (itself (piece u v) d r.0 r.1))),
+      )
 
   module _ (e : Edge) (here : Contains edges e) where
     -- two points that see pieces of one walk
@@ -160,11 +185,8 @@ module _ {A : Type 0} (K : OrderedRing A) (vertices : List (Point A)) (edges : L
           let first : IsOuter K at all (piece o.0 o.1) = outer_piece K vertices edges h o.0 o.1 o.2 in
           let r : (p : Point A) × LeftOf K at all (piece o.0 o.1) p = left_point (piece o.0 o.1) first.1 in
           outer_unbounded K at all plane (piece o.0 o.1) first r.0 r.1
-          (bounded_too (one_region corners w.walk q r.0 l (o.0, o.1, o.3, (r.0, sees_of K vertices edges o.0 o.1 r.0 r.1, region_on K vertices edges (itself r.0 (piece o.0 o.1) first.1 r.1))))
+          (bounded_too (one_region corners w.walk q r.0 l (o.0, o.1, o.3, (r.0, sees_of K vertices edges o.0 o.1 r.0 r.1, region_on K vertices edges (itself (piece o.0 o.1) first.1 r.0 r.1))))
           (bounded_of K vertices edges q b))
-        where
-          itself : (p : Point A) (d : Piece) → IsDirected all d → LeftOf K at all d p → OneRegion K at all p p
-          itself p d hd k = region_of_walk K at all plane d d hd same p p k k
 
       inner_bounded : (corners : List ℕ) → IsFaceWalk K vertices edges corners
           → (q : Point A) → WalkHasAtLeft K vertices edges corners q → IsBoxed K vertices edges q
@@ -199,6 +221,8 @@ module _ {A : Type 0} (K : OrderedRing A) (vertices : List (Point A)) (edges : L
 
       pub listed_faces : (faces : List Face) → AreFaces K vertices edges faces → AreBoundedRegions K vertices edges faces
       listed_faces faces are = record {
+        some_point = λ f i. point_of_walk f.corners (are.only f i).walk;
+        one_region = λ f i. regions_of_walks.one_region f.corners (are.only f i).walk;
         bounded = λ f i q l. inner_bounded f.corners (are.only f i) q l;
         every = λ q hq off b.
             let w : (corners : List ℕ) × IsWalk K vertices edges corners × WalkHasAtLeft K vertices edges corners q = regions_of_walks.no_region_missed q hq off in

@@ -52,6 +52,10 @@ module _ {A : Type 0} (K : OrderedRing A) where
     is = sym (same_vector (first_share a.x b.x) (first_share a.y b.y) (first_share a.w b.w));
   }
 
+  pub on_first_share : (a b : Point A) → K.sign (on_first a b).from_share ≡ Greater
+  unfolding on_first
+  on_first_share a b = K.sign_int (pos 1)
+
   pub on_second : (a b : Point A) → IsOn K a b b
   on_second a b = on_turned K (on_first b a)
 

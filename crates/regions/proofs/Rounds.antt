@@ -127,6 +127,10 @@ module _ {A : Type 0} (K : OrderedRing A) (vertices : List (Point A)) (edges : L
   all_linked (p ∷ rest) f x y i j =
       linked_then (linked_back (linked_on p (rest ++ p ∷ []) f x (first_last p rest x i))) (linked_on p (rest ++ p ∷ []) f y (first_last p rest y j))
 
+  pub some_piece : (xs : List Pair) → FollowRound K vertices edges xs → (x : Pair) × Contains xs x
+  some_piece [] f = absurd f
+  some_piece (p ∷ rest) f = (p, in_head p rest)
+
   pub one_before_it : (xs : List Pair) → FollowRound K vertices edges xs → (y : Pair) → Contains xs y → (x : Pair) × After x y
   one_before_it [] f y i = absurd f
   one_before_it (p ∷ rest) f y i =

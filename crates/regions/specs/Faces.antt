@@ -55,8 +55,12 @@ module _ {A : Type 0} (K : OrderedRing A) (vertices : List (Point A)) (edges : L
     pub inner : (corners : List ℕ) → IsFaceWalk K vertices edges corners
         → (q : Point A) → WalkHasAtLeft corners q → IsBounded K vertices edges q
 
-  -- the faces are the bounded regions, each once
+  -- The faces are the bounded regions, each once: each face has one region at its left, which is
+  -- bounded, each bounded region is at the left of a face, and no two faces have one region.
   pub record AreBoundedRegions (faces : List Face) : Type 0 where
+    pub some_point : (f : Face) → Contains faces f → (q : Point A) × IsPoint K q × IsOff K vertices edges q × WalkHasAtLeft f.corners q
+    pub one_region : (f : Face) → Contains faces f → (p q : Point A)
+        → WalkHasAtLeft f.corners p → WalkHasAtLeft f.corners q → AreInOneRegion K vertices edges p q
     pub bounded : (f : Face) → Contains faces f → (q : Point A) → WalkHasAtLeft f.corners q → IsBounded K vertices edges q
     pub every : (q : Point A) → IsPoint K q → IsOff K vertices edges q → IsBounded K vertices edges q
         → (f : Face) × Contains faces f × WalkHasAtLeft f.corners q
