@@ -30,3 +30,4 @@ pub mod Rotations
 pub mod Leftmost
 pub mod Partition
 pub mod Bounded
+pub mod Triangle

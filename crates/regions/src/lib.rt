@@ -3,6 +3,7 @@
 #![tactic(auto)]
 
 ghost use Rattle.std.specs.Prelude.{◌<◌, ℕ, List as Listed, [], length, Contains, ℤ};
+ghost use Rattle.algebra.proofs.Integers.{integers};
 ghost use Rattle.algebra.specs.OrderedRing.{OrderedRing};
 ghost use Rattle.algebra.specs.Surd.{Surd};
 ghost use Rattle.algebra.specs.WholeSurds.{SurdNumbers};
@@ -16,6 +17,7 @@ ghost use Rattle.scaled_plane.specs.Regions.{IsBounded};
 ghost use Rattle.scaled_plane.specs.Walks.{AreFaces, ComesAfter, IsDirectedPiece, IsLeastRotation, IsOuterWalk, IsWalk};
 ghost use Rattle.scaled_plane.specs.WellSet.{IsWellSet};
 ghost use Rattle.regions.specs.Faces.{AreBoundedRegions, FacesAreBounded, IsConnected, IsOfWalk, IsPlane, WalksHaveRegions};
+ghost use Rattle.regions.specs.Triangle.{corners, sides};
 
 /// The faces are the bounded regions: the directed pieces of one walk have one region at their left, and each region is at
 /// the left of some walk; in a connected drawing two walks have different regions, of which that of the outer walk isn't
@@ -56,4 +58,10 @@ pub fn each_piece_in_one_walk<T>()
 pub fn well_set_drawings_are_plane<T>()
     ensures { (k : ℕ) (surd : T → Surd ℤ) (numbers : SurdNumbers k surd) (drawing : AnyDrawing T)
         → IsWellSet numbers drawing → IsPlane numbers.ring drawing.vertices drawing.edges }
+{}
+
+/// A triangle is a connected plane drawing, so that what the theorems ask for can be met.
+pub fn triangle_is_plane()
+    ensures plane { IsPlane integers corners sides }
+    ensures connected { IsConnected integers corners sides }
 {}
