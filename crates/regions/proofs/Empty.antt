@@ -1,7 +1,9 @@
--- A drawing without pieces: the whole plane is one region, which isn't bounded.
+-- A drawing without pieces: the whole plane is one region, which isn't bounded, and there are no walks.
 use Prim.Native.Nat.{ℕ}
 use mathlib.Core.Path.{◌≡◌}
-use mathlib.Core.List.{[], ◌∷◌}
+use mathlib.Core.List.{List, [], ◌∷◌}
+use Rattle.plane.proofs.Members.{in_nil}
+use Rattle.scaled_plane.specs.Walks.{FollowRound, IsWalk, pieces_round}
 use lib.IntN.{pos}
 use Rattle.std.specs.Prelude.{IsTrue}
 use Rattle.std.specs.declared.cmp.Ordering.{Ordering}
@@ -24,3 +26,12 @@ module _ {A : Type 0} (K : OrderedRing A) (place : ℕ → Point A) where
       = sign_from_multiple K (b.0 ∷ b.1 ∷ []) (known positive (search reads depth 40 fits 50000) b.2 (known any_sign {a = b.0} (search reads depth 40 fits 50000) tt (known any_sign {a = K.sub b.0 (K.int (pos 1))} (search reads depth 40 fits 50000) tt no_sign)))
       negative {w = K.int (pos 2)} (search reads depth 40 fits 50000) (K.sign_int (pos 2)) (search reads depth 40 fits 50000) (negated (product (given 0) (sum (sum (square (given 1)) (square (given 2))) (number (pos 1))))) tt tt in
       less_not_ge west (b.3 q (straight hp b.2 (λ e i. absurd i))).west
+
+module _ {A : Type 0} (K : OrderedRing A) (vertices : List (Point A)) where
+  none_follow : (xs : List (ℕ × ℕ)) → FollowRound K vertices [] xs → ⊥
+  none_follow [] f = f
+  none_follow (p ∷ []) f = in_nil f.0.1.piece.0 f.0.1.piece.1
+  none_follow (p ∷ q ∷ rest) f = in_nil f.0.1.piece.0 f.0.1.piece.1
+
+  pub no_walk : (corners : List ℕ) → ¬ IsWalk K vertices [] corners
+  no_walk corners w = none_follow (pieces_round corners) w.follow

@@ -21,7 +21,7 @@ ghost use Rattle.regions.specs.Triangle.{corners, sides};
 
 /// The faces are the bounded regions: the directed pieces of one walk have one region at their left, and each region is at
 /// the left of some walk; in a connected drawing two walks have different regions, of which that of the outer walk isn't
-/// bounded, and all others are. A drawing without edges has no bounded region.
+/// bounded, and all others are. A drawing without edges has no bounded region and no walks.
 pub fn faces_are_bounded_regions<T>()
     ensures walks { (K : OrderedRing T) (vertices : Listed (AnyPoint T)) (edges : Listed AnyEdge) (e : AnyEdge)
         → IsPlane K vertices edges → Contains edges e → WalksHaveRegions K vertices edges }
@@ -32,6 +32,7 @@ pub fn faces_are_bounded_regions<T>()
         → AreBoundedRegions K vertices edges faces }
     ensures empty { (K : OrderedRing T) (vertices : Listed (AnyPoint T)) (p : AnyPoint T)
         → IsPoint K p → ¬ IsBounded K vertices [] p }
+    ensures no_walks { (K : OrderedRing T) (vertices : Listed (AnyPoint T)) (corners : Listed ℕ) → ¬ IsWalk K vertices [] corners }
 {}
 
 /// Each directed piece is in exactly one walk: one piece comes after it, it comes after one, and walks that share a piece are
