@@ -1,13 +1,14 @@
-ghost use Rattle.std.specs.Prelude.{◌≡◌, pos, ◌<◌, ◌↔◌, IsTrue, IfSome};
+ghost use Rattle.std.specs.Prelude.{◌≡◌, pos, ◌<◌, ◌<ℤ◌, ◌≤ℤ◌, ◌^◌, ◌↔◌, IsTrue, IfSome};
 ghost use Rattle.plane.specs.Points.{IsSamePoint};
 ghost use Rattle.scaled_plane.specs.Drawn.{IsScaledPoint, IsScaledSegment};
+ghost use Rattle.segment_tests.specs.Meets.{CrossesInDrawn};
 
 use exact_number::{Exact, MOST_SCALED, Whole};
 use fold_base::Letter;
 use plane::Point;
 use rational::{Rational, RationalRing};
-use root_two::{RootTwo, RootTwoRing};
-use scaled_plane::{Segment, compare_points, exact_point};
+use root_two::{RootThree, RootThreeRing, RootTwo, RootTwoRing};
+use scaled_plane::{Pair, Segment, compare_points, exact_point};
 use segment_tests::{Meet, Steps, meet};
 use std::cmp::Ordering;
 use std::marker::Brand;
@@ -84,6 +85,7 @@ fn common<W: Whole, L: Ledger>(blank: Blank, s: Segment<W>, t: Segment<W>) -> Op
     requires name { blank.name ≡ L.name }
     requires parts { blank.parts ≡ L.parts }
     requires some { 0 < L.parts }
+    ensures { IfSome result (λ met. CrossesInDrawn W.numbers met) }
 {
     if is_point(s) {
         return None;
@@ -147,7 +149,41 @@ fn segments_meet(rt: HostRuntime) {
     for (s, t, answer) in rows {
         assert_eq!(rt; between::<RationalRing>(&rt, s, t), answer);
         assert_eq!(rt; between::<RootTwoRing>(&rt, s, t), answer);
+        assert_eq!(rt; between::<RootThreeRing>(&rt, s, t), answer);
     }
+}
+
+/// The exact point where two segments cross.
+fn exact_crossing<N: Exact>(
+    rt: &impl Abort,
+    s: Segment<N::Ring>,
+    t: Segment<N::Ring>,
+    denominator: i128,
+) -> Option<Pair<N>>
+    requires first { IsScaledSegment N.Ring.numbers s }
+    requires second { IsScaledSegment N.Ring.numbers t }
+    requires positive { pos 0 <ℤ denominator }
+    requires within { denominator ≤ℤ pos (2 ^ 24) }
+{
+    match common::<N::Ring, Brand>(Blank::new(1), s, t).expect(rt, "proper") {
+        Meet::Crosses(point) => exact_point(point, denominator),
+        _ => None,
+    }
+}
+
+type Parts = (i128, i128, i128);
+
+fn parts<N: Exact>(point: Option<Pair<N>>) -> Option<(Parts, Parts)> {
+    match point {
+        Some(point) => Some((point.x.parts(), point.y.parts())),
+        None => None,
+    }
+}
+
+fn diagonal_crossing<N: Exact>(rt: &impl Abort) -> Option<(Parts, Parts)> {
+    let s = segment::<N::Ring>((0, 0), (2, 3)).expect(rt, "small");
+    let t = segment::<N::Ring>((0, 3), (2, 0)).expect(rt, "small");
+    parts(exact_crossing::<N>(rt, s, t, 12))
 }
 
 #[test]
@@ -155,7 +191,35 @@ fn drawn_points_become_exact(rt: HostRuntime) {
     let p: Point<RationalRing> = scaled((6, -4)).expect(&rt, "small");
     let exact = exact_point::<Rational>(p, 12).expect(&rt, "narrow");
     assert_eq!(rt; (exact.x.parts(), exact.y.parts()), ((1, 0, 2), (-1, 0, 3)));
-    let p: Point<RootTwoRing> = scaled((6, -4)).expect(&rt, "small");
-    let exact = exact_point::<RootTwo>(p, 12).expect(&rt, "narrow");
-    assert_eq!(rt; (exact.x.parts(), exact.y.parts()), ((1, 0, 2), (-1, 0, 3)));
+    let middle = Some(((1, 0, 12), (1, 0, 8)));
+    assert_eq!(rt; diagonal_crossing::<Rational>(&rt), middle);
+    assert_eq!(rt; diagonal_crossing::<RootTwo>(&rt), middle);
+    assert_eq!(rt; diagonal_crossing::<RootThree>(&rt), middle);
+}
+
+/// The lines from the origin to (√k, 1) and from (0, 1) to (√k, 0) cross in the middle of (√k, 1).
+fn crossing_with_root<N: Exact>(rt: &impl Abort) -> Option<(Parts, Parts)> {
+    let zero = N::Ring::from_pair(0, 0).expect(rt, "a number");
+    let root = N::Ring::from_pair(0, 1).expect(rt, "with a root");
+    let one = one();
+    let at = |x, y| Point { x, y, w: one };
+    let letter = Letter::Mountain;
+    let s = Segment {
+        from: at(zero, zero),
+        to: at(root, one),
+        letter,
+    };
+    let t = Segment {
+        from: at(zero, one),
+        to: at(root, zero),
+        letter,
+    };
+    parts(exact_crossing::<N>(rt, s, t, 1))
+}
+
+#[test]
+fn roots_stay_in_the_points_that_are_made_exact(rt: HostRuntime) {
+    let middle = Some(((0, 1, 2), (1, 0, 2)));
+    assert_eq!(rt; crossing_with_root::<RootTwo>(&rt), middle);
+    assert_eq!(rt; crossing_with_root::<RootThree>(&rt), middle);
 }

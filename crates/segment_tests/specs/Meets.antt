@@ -1,12 +1,15 @@
 -- What two closed segments have in common.
-use Rattle.std.specs.Prelude.{◌≡◌, ◌⊎◌, ◌↔◌}
+use Rattle.std.specs.Prelude.{◌≡◌, ◌⊎◌, ◌↔◌, ℕ, ℤ}
 use Rattle.std.specs.declared.cmp.Ordering.TheVariants.{Less}
 use Rattle.algebra.specs.OrderedRing.{OrderedRing}
+use Rattle.algebra.specs.Surd.{Surd}
+use Rattle.algebra.specs.WholeSurds.{SurdNumbers}
 use Rattle.plane.specs.declared.point.Point.{Point}
 use Rattle.scaled_plane.specs.declared.point.Segment.{Segment}
 use Rattle.plane.specs.Points.{IsPoint, IsSamePoint, point_order}
 use Rattle.plane.specs.Segments.{IsOn, IsEnd}
 use Rattle.scaled_plane.specs.Segments.{IsCommon}
+use Rattle.scaled_plane.specs.Drawn.{IsDrawn}
 use Rattle.plane.specs.Lines.{crossing}
 use Rattle.segment_tests.specs.declared.answer.Meet.{Meet}
 use Rattle.segment_tests.specs.declared.answer.Meet.TheVariants.{Apart, Touches, Crosses, Along}
@@ -29,3 +32,8 @@ module _ {A : Type 0} (K : OrderedRing A) (s t : Segment A) where
   IsMeet (Crosses q) = IsOnlyCommon q × ¬ IsEnd K s.from s.to q × ¬ IsEnd K t.from t.to q × (q ≡ crossing K s.from s.to t.from t.to)
   IsMeet (Along p q) = IsOneEnd p × IsOneEnd q × (point_order K p q ≡ Less)
       × ((r : Point A) → IsPoint K r → (IsCommon K s t r ↔ IsOn K p q r))
+
+-- where they cross is a drawn point
+abbrev pub CrossesInDrawn : {A : Type 0} {k : ℕ} {surd : A → Surd ℤ} (numbers : SurdNumbers k surd) → Meet A → Type 0
+CrossesInDrawn numbers (Crosses q) = IsDrawn numbers q
+CrossesInDrawn numbers _ = Unit {0}

@@ -3,7 +3,7 @@ ghost use Rattle.plane.specs.Lines.{AreApart, side};
 ghost use Rattle.std.specs.declared.cmp.Ordering.TheVariants.{Equal};
 ghost use Rattle.scaled_plane.specs.Pieces.{IsProper};
 ghost use Rattle.scaled_plane.specs.Drawn.{IsScaledSegment};
-ghost use Rattle.segment_tests.specs.Meets.{IsMeet};
+ghost use Rattle.segment_tests.specs.Meets.{CrossesInDrawn, IsMeet};
 
 use crate::answer::Meet;
 use crate::steps::Steps;
@@ -104,12 +104,15 @@ fn meeting<W: Whole>(s: Segment<W>, t: Segment<W>) -> Meet<W>
 }
 
 /// The common points of two segments, at one step of the counter.
+#[inline]
+#[tactic(auto, using(crate::proofs::Drawing::crosses_in_drawn))]
 pub fn meet<W: Whole, L: Ledger>(s: Segment<W>, t: Segment<W>, steps: &mut Steps<L>) -> Meet<W>
     requires first { IsScaledSegment W.numbers s }
     requires second { IsScaledSegment W.numbers t }
     requires first_proper { IsProper W.numbers.ring s }
     requires second_proper { IsProper W.numbers.ring t }
     ensures common { IsMeet W.numbers.ring s t result }
+    ensures drawn { CrossesInDrawn W.numbers result }
     ensures counted { steps.new ≡ steps.old + 1 }
 {
     steps.tick();
