@@ -7,7 +7,7 @@ use crate::status::Status;
 use crate::words::Command;
 use cp_lines::print_cp;
 use fold_base::Text;
-use fold_keys::{FoldFile, from_json, to_json};
+use fold_keys::{FoldFile, from_json};
 use json_tree::{Json, print};
 use std::alloc::Global;
 
@@ -33,14 +33,15 @@ fn show(alloc: Global, input: Input) -> Result<Text, Status>
     }
 }
 
-/// The printed form of a file, in a line.
+/// The printed form of a file, in a line. The tree of a file that is read is the tree that it is read from, so the text is
+/// made first, and reading the file, which takes the tree apart, decides whether it is the answer.
 fn show_tree(alloc: Global, tree: Json) -> Result<Text, Status>
     requires { IsSoundTree tree }
     ensures { Follows (ShowsTree tree) result }
 {
-    let file = read_file(alloc, tree)?;
-    let mut text = print(alloc, &to_json(alloc, &file)?)?;
+    let mut text = print(alloc, &tree)?;
     text.push('\n')?;
+    read_file(alloc, tree)?;
     Ok(text)
 }
 
