@@ -15,7 +15,7 @@ use Rattle.plane.specs.Points.{IsPoint, IsSamePoint, combination, opposite_vecto
 use Rattle.plane.specs.Lines.{AreApart, side, line, meeting, determinant, as_point, crossing}
 use Rattle.plane.specs.Directions.{direction, turn, AreParallel}
 use Rattle.plane.specs.Segments.{IsOn, IsOnBoth, SegmentsMeet}
-use Rattle.plane.proofs.Lines.{determinant_turned}
+use Rattle.plane.proofs.Lines.{determinant_turned, swapped}
 use Rattle.plane.proofs.Shares.{multiples_positive, combination_point, side_of_on, combination_on, sum_of_shares}
 use Rattle.plane.proofs.OnSegments.{on_turned, sign_on}
 use Rattle.plane.proofs.Signs.{greater_not_zero}
@@ -178,10 +178,6 @@ module _ {A : Type 0} (K : OrderedRing A) where
       let in_w : (opposite_vector K.ops (crossing_across a b c d)).w ≡ (crossing_across a b d c).w = ring K xs (search reads depth 40 fits 50000) (search reads depth 40 fits 50000) tt in
       λ i. record { x = in_x i; y = in_y i; w = in_w i }
 
-  pub line_reversed : (c d a : Point A) → side K d c a ≡ ordering_reverse (side K c d a)
-  line_reversed c d a =
-      ap K.sign (ring K (a.x ∷ a.y ∷ a.w ∷ c.x ∷ c.y ∷ c.w ∷ d.x ∷ d.y ∷ d.w ∷ []) (search reads depth 40 fits 50000) (search reads depth 40 fits 50000) tt) ∙ sign_neg K (determinant K.ops c d a)
-
   apart_reversed : (o p : Ordering) → AreApart o p → AreApart (ordering_reverse o) (ordering_reverse p)
   apart_reversed Less Less h = absurd (cc)
   apart_reversed Less Equal h = refl
@@ -205,8 +201,8 @@ module _ {A : Type 0} (K : OrderedRing A) where
     backward : IsTrue (is_ge (side K a b c)) → IsTrue (is_le (side K a b d)) → ¬ ((side K a b c ≡ Equal) × (side K a b d ≡ Equal)) → IsOnBoth K a b c d (crossing K a b c d)
     backward h k n =
         let turned : AreApart (side K d c a) (side K d c b)
-        = subst (λ (o : Ordering). AreApart o (side K d c b)) (sym (line_reversed c d a))
-        (subst (λ (o : Ordering). AreApart (ordering_reverse (side K c d a)) o) (sym (line_reversed c d b)) (apart_reversed (side K c d a) (side K c d b) other)) in
+        = subst (λ (o : Ordering). AreApart o (side K d c b)) (sym (swapped K c d a))
+        (subst (λ (o : Ordering). AreApart (ordering_reverse (side K c d a)) o) (sym (swapped K c d b)) (apart_reversed (side K c d a) (side K c d b) other)) in
         let both = crossing_on_both a b d c ha hb hd hc k h (λ e. n (e.1, e.0)) turned in
         let forth = crossing_across a b c d in
         let below : K.sign forth.w ≡ Less

@@ -14,13 +14,11 @@ use Rattle.plane.specs.Lines.{side}
 use Rattle.plane.specs.Segments.{IsOn}
 use Rattle.scaled_plane.specs.Segments.{IsCommon}
 use Rattle.plane.proofs.Shares.{side_of_on}
-use Rattle.plane.proofs.Lines.{same_refl}
+use Rattle.plane.proofs.Lines.{at_first, at_second, same_refl, swapped}
 use Rattle.plane.proofs.OnSegments.{on_turned}
-use Rattle.plane.proofs.Crossings.{line_reversed}
 use Rattle.plane.proofs.Order.{SomePoint, points_total, order_turned, order_same_right, same_of_equal, equal_of_same}
 use Rattle.plane.proofs.Along.{between_of_on, on_of_between, in_line}
 use Rattle.segment_tests.specs.Meets.{IsOnlyCommon, IsOneEnd}
-use Rattle.segment_tests.proofs.Touching.{side_at_first, side_at_second}
 
 not_greater : (o : Ordering) → IsTrue (is_le o) → is_gt o ≡ false
 not_greater Less h = refl
@@ -88,10 +86,10 @@ module _ {A : Type 0} (K : OrderedRing A) where
     high_point = of_either (IsPoint K) b d high stretch.high_is hb hd
 
     on_low : side K a b low ≡ Equal
-    on_low = of_either (λ p. side K a b p ≡ Equal) a c low stretch.low_is (side_at_first K a b) on_c
+    on_low = of_either (λ p. side K a b p ≡ Equal) a c low stretch.low_is (at_first K a b) on_c
 
     on_high : side K a b high ≡ Equal
-    on_high = of_either (λ p. side K a b p ≡ Equal) b d high stretch.high_is (side_at_second K a b) on_d
+    on_high = of_either (λ p. side K a b p ≡ Equal) b d high stretch.high_is (at_second K a b) on_d
 
     within : (p : Point A) → IsPoint K p → IsOn K a b p → IsOn K c d p → (side K a b p ≡ Equal) × Le low p × Le p high
     within p hp h k =
@@ -116,7 +114,7 @@ module _ {A : Type 0} (K : OrderedRing A) where
       λ h. let between = between_of_on K low high p low_point high_point hp low_first h in
           without p hp
           (in_line K low high a b p low_first
-          (in_line K a b low high a a_first on_low on_high (side_at_first K a b)) (in_line K a b low high b a_first on_low on_high (side_at_second K a b))
+          (in_line K a b low high a a_first on_low on_high (at_first K a b)) (in_line K a b low high b a_first on_low on_high (at_second K a b))
           (side_of_on K h)) between.0 between.1,
     )
 
@@ -161,7 +159,7 @@ module _ {A : Type 0} (K : OrderedRing A) where
 
   pub ends_side : (s : Segment A) (a b p : Point A) → AreEnds s a b → side K s.from s.to p ≡ Equal → side K a b p ≡ Equal
   ends_side s a b p (inl e) h = moved_side p s.from s.to a b (sym e.0) (sym e.1) h
-  ends_side s a b p (inr e) h = moved_side p s.to s.from a b (sym e.0) (sym e.1) (line_reversed K s.from s.to p ∙ ap ordering_reverse h)
+  ends_side s a b p (inr e) h = moved_side p s.to s.from a b (sym e.0) (sym e.1) (swapped K s.from s.to p ∙ ap ordering_reverse h)
 
   pub end_of_first : (s t : Segment A) (a b : Point A) → AreEnds s a b → IsOneEnd K s t a × IsOneEnd K s t b
   end_of_first s t a b (inl e) = (inl e.0, inr (inl e.1))

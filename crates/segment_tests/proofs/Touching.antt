@@ -1,17 +1,14 @@
 -- Segments that don't lie along one line: none, or one point in common.
-use mathlib.Core.Path.{◌≡◌, sym, ap, subst, ◌∙◌}
-use mathlib.Core.List.{[], ◌∷◌}
-use lib.IntN.{pos}
+use mathlib.Core.Path.{◌≡◌, sym, subst, ◌∙◌}
 use Rattle.std.proofs.Common.{inl, inr}
 use Rattle.std.specs.Prelude.{IsTrue, Bool, true, false}
 use Rattle.std.specs.declared.cmp.Ordering.{Ordering}
 use Rattle.std.specs.declared.cmp.Ordering.TheVariants.{Equal}
 use Rattle.algebra.specs.OrderedRing.{OrderedRing}
-use Rattle.algebra.proofs.Solvers.{reads, ring}
 use Rattle.plane.specs.declared.point.Point.{Point}
 use Rattle.scaled_plane.specs.declared.point.Segment.{Segment}
 use Rattle.plane.specs.Points.{IsPoint, IsSamePoint}
-use Rattle.plane.specs.Lines.{line, AreApart, side, determinant}
+use Rattle.plane.specs.Lines.{line, AreApart, side}
 use Rattle.plane.specs.Segments.{IsEnd, IsOnBoth}
 use Rattle.scaled_plane.specs.Segments.{IsCommon}
 use Rattle.plane.specs.Directions.{AreParallel}
@@ -22,16 +19,6 @@ use Rattle.plane.proofs.Crossings.{share_point, meet_in_crossing, on_lines_cross
 use Rattle.segment_tests.specs.Meets.{IsOnlyCommon}
 
 module _ {A : Type 0} (K : OrderedRing A) where
-  pub side_at_first : (a b : Point A) → side K a b a ≡ Equal
-  side_at_first a b =
-      let zero : determinant K.ops a b a ≡ K.int (pos 0) = ring K (a.x ∷ a.y ∷ a.w ∷ b.x ∷ b.y ∷ b.w ∷ []) (search reads depth 40 fits 50000) (search reads depth 40 fits 50000) tt in
-      ap K.sign zero ∙ K.sign_int (pos 0)
-
-  pub side_at_second : (a b : Point A) → side K a b b ≡ Equal
-  side_at_second a b =
-      let zero : determinant K.ops a b b ≡ K.int (pos 0) = ring K (a.x ∷ a.y ∷ a.w ∷ b.x ∷ b.y ∷ b.w ∷ []) (search reads depth 40 fits 50000) (search reads depth 40 fits 50000) tt in
-      ap K.sign zero ∙ K.sign_int (pos 0)
-
   module _ (s t : Segment A) (ha : IsPoint K s.from) (hb : IsPoint K s.to) (hc : IsPoint K t.from) (hd : IsPoint K t.to)
       (not_along : ¬ ((side K s.from s.to t.from ≡ Equal) × (side K s.from s.to t.to ≡ Equal))) where
     pub none_common : ¬ (AreApart (side K s.from s.to t.from) (side K s.from s.to t.to) × AreApart (side K t.from t.to s.from) (side K t.from t.to s.to))

@@ -1,8 +1,9 @@
 use Rattle.std.proofs.Common.{◌≡◌, ◌∙◌, sym, refl, inl, inr}
 use Rattle.std.specs.declared.cmp.Ordering.TheVariants.{Equal}
 use Rattle.plane.specs.Lines.{side}
+use Rattle.plane.proofs.Lines.{at_first, at_second}
 use Rattle.scaled_plane.proofs.DrawnSizes.{scaled_point}
-use Rattle.segment_tests.proofs.Touching.{side_at_first, side_at_second, only_common, not_parallel, cross_common, no_end_of_first, no_end_of_second, moved_apart, refuted, crosses}
+use Rattle.segment_tests.proofs.Touching.{only_common, not_parallel, cross_common, no_end_of_first, no_end_of_second, moved_apart, refuted, crosses}
 use Rattle.segment_tests.proofs.common.meet_in_point.Goals as goal
 
 pub cross_point-requires-clause-not_parallel : goal.cross_point-requires-clause-not_parallel
@@ -26,7 +27,7 @@ returns-then-is_level g c =
     let back = moved_apart c.args.back.0 c.args.back.1 (side n.ring t.from t.to s.from) (side n.ring t.from t.to s.to) c.requires.back_from_is c.requires.back_to_is c.requires.back_apart in
     let level = c.is_level.ensures.0 c.if-is_level.true in (
       only_common n.ring s t (scaled_point n s.from c.requires.first.from) (scaled_point n s.to c.requires.first.to)
-          (scaled_point n t.from c.requires.second.from) (scaled_point n t.to c.requires.second.to) not_along apart back t.from (scaled_point n t.from c.requires.second.from) (sym c.requires.from_is ∙ level) (side_at_first n.ring t.from t.to),
+          (scaled_point n t.from c.requires.second.from) (scaled_point n t.to c.requires.second.to) not_along apart back t.from (scaled_point n t.from c.requires.second.from) (sym c.requires.from_is ∙ level) (at_first n.ring t.from t.to),
       inr (inr (inl refl)),
     )
 
@@ -40,7 +41,7 @@ returns-then-is_level-2 g c =
     let back = moved_apart c.args.back.0 c.args.back.1 (side n.ring t.from t.to s.from) (side n.ring t.from t.to s.to) c.requires.back_from_is c.requires.back_to_is c.requires.back_apart in
     let level = c.is_level-else-is_level.ensures.0 c.if-is_level-2.true in (
       only_common n.ring s t (scaled_point n s.from c.requires.first.from) (scaled_point n s.to c.requires.first.to)
-          (scaled_point n t.from c.requires.second.from) (scaled_point n t.to c.requires.second.to) not_along apart back t.to (scaled_point n t.to c.requires.second.to) (sym c.requires.to_is ∙ level) (side_at_second n.ring t.from t.to),
+          (scaled_point n t.from c.requires.second.from) (scaled_point n t.to c.requires.second.to) not_along apart back t.to (scaled_point n t.to c.requires.second.to) (sym c.requires.to_is ∙ level) (at_second n.ring t.from t.to),
       inr (inr (inr refl)),
     )
 
@@ -54,7 +55,7 @@ returns-then-is_level-3 g c =
     let back = moved_apart c.args.back.0 c.args.back.1 (side n.ring t.from t.to s.from) (side n.ring t.from t.to s.to) c.requires.back_from_is c.requires.back_to_is c.requires.back_apart in
     let level = c.is_level-else-is_level-2.ensures.0 c.if-is_level-3.true in (
       only_common n.ring s t (scaled_point n s.from c.requires.first.from) (scaled_point n s.to c.requires.first.to)
-          (scaled_point n t.from c.requires.second.from) (scaled_point n t.to c.requires.second.to) not_along apart back s.from (scaled_point n s.from c.requires.first.from) (side_at_first n.ring s.from s.to) (sym c.requires.back_from_is ∙ level),
+          (scaled_point n t.from c.requires.second.from) (scaled_point n t.to c.requires.second.to) not_along apart back s.from (scaled_point n s.from c.requires.first.from) (at_first n.ring s.from s.to) (sym c.requires.back_from_is ∙ level),
       inl refl,
     )
 
@@ -68,7 +69,7 @@ returns-then-is_level-4 g c =
     let back = moved_apart c.args.back.0 c.args.back.1 (side n.ring t.from t.to s.from) (side n.ring t.from t.to s.to) c.requires.back_from_is c.requires.back_to_is c.requires.back_apart in
     let level = c.is_level-else-is_level-3.ensures.0 c.if-is_level-4.true in (
       only_common n.ring s t (scaled_point n s.from c.requires.first.from) (scaled_point n s.to c.requires.first.to)
-          (scaled_point n t.from c.requires.second.from) (scaled_point n t.to c.requires.second.to) not_along apart back s.to (scaled_point n s.to c.requires.first.to) (side_at_second n.ring s.from s.to) (sym c.requires.back_to_is ∙ level),
+          (scaled_point n t.from c.requires.second.from) (scaled_point n t.to c.requires.second.to) not_along apart back s.to (scaled_point n s.to c.requires.first.to) (at_second n.ring s.from s.to) (sym c.requires.back_to_is ∙ level),
       inr (inl refl),
     )
 
