@@ -35,11 +35,11 @@ pub is_object : (tree : Json) (members : List Member) → out-Json tree ≡ laye
     → tree ≡ trees.Object members
 is_object tree members e = sym (roll-out-Json tree) ∙ ap roll-Json e ∙ trees.rolls-Object members
 
-is_list : (tree : Json) (items : List Json) → out-Json tree ≡ layers.List items
+pub is_list : (tree : Json) (items : List Json) → out-Json tree ≡ layers.List items
     → tree ≡ trees.List items
 is_list tree items e = sym (roll-out-Json tree) ∙ ap roll-Json e ∙ trees.rolls-List items
 
-all_both : {X : Type 0} (P Q R : X → Type 0) (xs : List X) → ((x : X) → P x → Q x → R x)
+pub all_both : {X : Type 0} (P Q R : X → Type 0) (xs : List X) → ((x : X) → P x → Q x → R x)
     → AllByRecursion P xs → AllByRecursion Q xs → AllByRecursion R xs
 all_both P Q R [] f ps qs = tt
 all_both P Q R (x ∷ xs) f ps qs = (f x ps.0 qs.0, all_both P Q R xs f ps.1 qs.1)
@@ -117,7 +117,7 @@ other_is_readable number other tree good = at (out-Json tree) refl
 
 -- ---- what stands at the key of the other frames
 
-value_all : (P : Json → Type 0) (key : List ℕ) (members : List Member) (v : Json)
+pub value_all : (P : Json → Type 0) (key : List ℕ) (members : List Member) (v : Json)
     → AllByRecursion (λ m. P m.value) members → value_of members key ≡ Some v
     → P v × HasKey members key
 value_all P key [] v all e = absurd (none_some e)

@@ -13,3 +13,4 @@ pub mod Readable
 pub mod Decimals
 pub mod OneValue
 pub mod Written
+pub mod Parts

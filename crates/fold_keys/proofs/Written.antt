@@ -86,7 +86,7 @@ others_fit from (f ∷ fs) some fits =
 abbrev word : List ℕ
 word = codes "file_frames"
 
-abbrev Keys : List Entry → List (List ℕ)
+abbrev pub Keys : List Entry → List (List ℕ)
 Keys es = map (λ e. e.key) es
 
 keep_tail : (e : Entry) (es : List Entry) → bytes_eq e.key word ≡ false
@@ -104,11 +104,11 @@ keep_tail e es other has = at has.0 has.1 has.2
         no_clash e = cc
     at (suc k) within same = (k, omega (arith, within), same)
 
-abbrev IsAside : List Json → List Entry → Type 0
+abbrev pub IsAside : List Json → List Entry → Type 0
 IsAside os es = (others_among (map (member_of os) es) ≡ Some os)
     ⊎ ((others_among (map (member_of os) es) ≡ None) × ¬ Contains (Keys es) word)
 
-place_of : (os : List Json) (es : List Entry) → AllByRecursion (Fits true) es → IsAside os es
+pub place_of : (os : List Json) (es : List Entry) → AllByRecursion (Fits true) es → IsAside os es
 place_of os [] fits = inr (refl, λ h. absurd (omega (arith, h.1)))
 place_of os (e ∷ es) fits = at (bytes_eq e.key word) refl (place_of os es fits.1)
   where
@@ -131,7 +131,7 @@ place_of os (e ∷ es) fits = at (bytes_eq e.key word) refl (place_of os es fits
       λ has. p.1 (keep_tail e es h has),
     )
 
-no_others : (first : Frame) (others : List Frame) → HavePlace (first ∷ others)
+pub no_others : (first : Frame) (others : List Frame) → HavePlace (first ∷ others)
     → ¬ Contains (Keys first.entries) word → map (tree_of_frame []) others ≡ []
 no_others first [] place none = refl
 no_others first (second ∷ others) place none = absurd (none place)

@@ -1,10 +1,10 @@
 -- which files have a tree that reads back
 use Rattle.std.specs.Prelude.{◌≡◌, List, [], ◌∷◌, map, Bool, true, false, Option, Some, None, Contains, codes}
 use Rattle.std.specs.List.{AllByRecursion}
-use Rattle.json_tree.specs.Tree.{IsProper}
-use Rattle.json_tree.specs.declared.tree.Json.{Json}
+use Rattle.json_tree.specs.Tree.{IsProper, IsProperWithin, AreDistinct}
+use Rattle.json_tree.specs.declared.tree.Json.{Json, out-Json}
 use Rattle.fold_keys.specs.Shape.{misfit_of_value, kind_by}
-use Rattle.fold_keys.specs.Short.{HasShortLists, HasShortSpec}
+use Rattle.fold_keys.specs.Short.{HasShortLists, HasShortSpec, HasShortNumber}
 use Rattle.fold_keys.specs.Trees.{tree_of_value, tree_of_file}
 use Rattle.fold_keys.specs.declared.kind.Kind.{Kind}
 use Rattle.fold_keys.specs.declared.kind.Kind.TheVariants as kinds
@@ -63,3 +63,28 @@ pub record IsWritable (file : FoldFile) : Type 0 where
   pub proper : IsProper (tree_of_file file)
   pub lists : HasShortLists (tree_of_file file)
   pub version : HasShortSpec (tree_of_file file)
+
+-- ---- entries
+
+-- the value fits the key, in the first frame or in another, and its tree can stand there
+pub record IsWritableEntry (first : Bool) (entry : Entry) : Type 0 where
+  pub fits : Fits first entry
+  pub proper : IsProperWithin 63 (tree_of_value [] entry.value)
+  pub lists : HasShortLists (tree_of_value [] entry.value)
+  pub version : kind_by first entry.key ≡ Some kinds.Spec
+      → HasShortNumber (out-Json (tree_of_value [] entry.value))
+
+-- the entries of a frame, the first or another
+pub record AreWritable (first : Bool) (entries : List Entry) : Type 0 where
+  pub distinct : AreDistinct (map (λ e. e.key) entries)
+  pub each : AllByRecursion (IsWritableEntry first) entries
+
+-- the entries of all frames
+abbrev pub HaveWritable : List Frame → Type 0
+HaveWritable [] = ⊥
+HaveWritable (first ∷ others) =
+    AreWritable true first.entries × AllByRecursion (λ frame. AreWritable false frame.entries) others
+
+-- the file with these entries and no other frame
+abbrev pub file_of : List Entry → FoldFile
+file_of entries = record { frames = record { entries = entries } ∷ [] }

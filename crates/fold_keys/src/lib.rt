@@ -16,6 +16,6 @@ mod writing;
 pub use fault::{FoldFault, ShapeFault, ShapeKind};
 pub use file::from_json;
 pub use kind::{Kind, Part, kind_of_file_key, kind_of_frame_key};
-pub use laws::{read_trees_are_readable, written_reads_back};
+pub use laws::{read_trees_are_readable, writable_entries, written_reads_back};
 pub use value::{Entry, FaceOrder, FoldFile, Frame, Value};
 pub use writing::{copy_value, to_json};

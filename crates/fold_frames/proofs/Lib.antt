@@ -1,0 +1,5 @@
+pub mod Merge
+pub mod Ways
+pub mod Paths
+pub mod Found
+pub mod Kept

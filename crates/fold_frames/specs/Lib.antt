@@ -1,0 +1,4 @@
+pub mod Parents
+pub mod Inherits
+pub mod Effects
+pub mod Answers

@@ -1,0 +1,11 @@
+//! The effective frame: a frame of a FOLD file with what it inherits.
+#![tactic(auto)]
+
+mod fault;
+mod frame;
+mod inherited;
+mod parents;
+
+pub use fault::FrameFault;
+pub use frame::Effective;
+pub use inherited::effective;
