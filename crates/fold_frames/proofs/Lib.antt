@@ -3,3 +3,5 @@ pub mod Ways
 pub mod Paths
 pub mod Found
 pub mod Kept
+pub mod Lengths
+pub mod FirstOf

@@ -2,3 +2,4 @@ pub mod Parents
 pub mod Inherits
 pub mod Effects
 pub mod Answers
+pub mod Counts

@@ -1,11 +1,13 @@
 //! The effective frame: a frame of a FOLD file with what it inherits.
 #![tactic(auto)]
 
+mod counts;
 mod fault;
 mod frame;
 mod inherited;
 mod parents;
 
+pub use counts::Counts;
 pub use fault::FrameFault;
 pub use frame::Effective;
 pub use inherited::effective;
