@@ -5,3 +5,4 @@ pub mod Found
 pub mod Kept
 pub mod Lengths
 pub mod FirstOf
+pub mod OneWay

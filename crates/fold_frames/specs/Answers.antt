@@ -8,16 +8,21 @@ use Rattle.fold_frames.specs.declared.fault.FrameFault.{FrameFault}
 use Rattle.fold_frames.specs.declared.fault.FrameFault.TheVariants as faults
 use Rattle.fold_frames.specs.declared.frame.Effective.{Effective}
 
--- frame k has no effective frame, for this cause; nothing is said where memory was wanting
+-- frame k has no effective frame, for this cause
 abbrev pub HasNone : List Frame → ℕ → FrameFault → Type 0
 HasNone frames k (faults.NoFrame frame) = (frame ≡ k) × (length frames ≤ k)
 HasNone frames k (faults.ParentRange frame) = LeavesAt frames k frame
 HasNone frames k (faults.ParentLoop frame) = ReturnsAt frames k frame
-HasNone frames k (faults.Memory e) = Unit {0}
+HasNone frames k (faults.Memory e) = ⊥
+
+-- nothing is said where memory was wanting
+abbrev pub AnswersNone : List Frame → ℕ → FrameFault → Type 0
+AnswersNone frames k (faults.Memory e) = Unit {0}
+AnswersNone frames k fault = HasNone frames k fault
 
 abbrev pub AnswersWay : List Frame → ℕ → Result (List ℕ) FrameFault → Type 0
 AnswersWay frames k (Ok way) = IsWay frames k way
-AnswersWay frames k (Err fault) = HasNone frames k fault
+AnswersWay frames k (Err fault) = AnswersNone frames k fault
 
 -- these are the entries of frame k with all that it inherits
 abbrev pub AreInherited : List Frame → ℕ → List Entry → Type 0
@@ -28,4 +33,4 @@ AreInherited frames k entries =
 abbrev pub AnswersEffective : List Frame → ℕ → Result Effective FrameFault → Type 0
 AnswersEffective frames k (Ok effective) =
     (effective.frame ≡ k) × AreInherited frames k effective.entries
-AnswersEffective frames k (Err fault) = HasNone frames k fault
+AnswersEffective frames k (Err fault) = AnswersNone frames k fault

@@ -5,9 +5,11 @@ mod counts;
 mod fault;
 mod frame;
 mod inherited;
+mod laws;
 mod parents;
 
 pub use counts::Counts;
 pub use fault::FrameFault;
 pub use frame::Effective;
 pub use inherited::effective;
+pub use laws::one_way_or_cause;

@@ -10,7 +10,7 @@ use std::alloc::Global;
 use std::test::Fail;
 
 /// The tree that the text spells.
-fn read(alloc: Global, text: &str) -> Result<Json, JsonReadFault>
+pub fn read(alloc: Global, text: &str) -> Result<Json, JsonReadFault>
     requires { length text.now ≤ MOST_BYTES }
     ensures proper { IfOk result IsProper }
     ensures lists { IfOk result HasShortLists }
