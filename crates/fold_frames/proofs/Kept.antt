@@ -1,6 +1,6 @@
 -- what a frame inherits can be written, key by key
-use Rattle.std.proofs.Common.{◌≡◌, ◌≢◌, ℕ, suc, ◌<◌, ◌≤◌, List, [], ◌∷◌, ◌++◌, length, map, filter, cond, refl, sym, ◌∙◌, ap, subst, Bool, true, false, Option, Some, None, arith}
-use Rattle.std.specs.Prelude.{All, not, codes, slice_get, if◌then◌else◌, ◌||◌, ◌&&◌, AllPairs}
+use Rattle.std.proofs.Common.{◌≡◌, ℕ, suc, List, [], ◌∷◌, ◌++◌, map, filter, cond, refl, sym, ◌∙◌, ap, subst, Bool, true, false, Some}
+use Rattle.std.specs.Prelude.{not, codes, if◌then◌else◌, ◌||◌, ◌&&◌}
 use Rattle.std.specs.List.{AllByRecursion, IsDistinct, list_all, starts_with}
 use Rattle.std.specs.Map.{keys_of}
 use Rattle.std.specs.Str.{bytes_eq}
@@ -13,8 +13,7 @@ use Rattle.indexmap.specs.IndexMap.{insert_entry, insert_all}
 use Rattle.fold_keys.specs.Shape.{kind_by}
 use Rattle.fold_keys.specs.Table.{Row, kind_in, file_rows, frame_rows}
 use Rattle.fold_keys.specs.Trees.{tree_of_value}
-use Rattle.fold_keys.specs.Writable.{IsOfKind, HasNoMisfit, Fits, IsWritableEntry, AreWritable, HaveWritable}
-use Rattle.fold_keys.specs.declared.kind.Kind.{Kind}
+use Rattle.fold_keys.specs.Writable.{IsOfKind, HasNoMisfit, IsWritableEntry, AreWritable, HaveWritable}
 use Rattle.fold_keys.specs.declared.value.Entry.{Entry}
 use Rattle.fold_keys.specs.declared.value.Frame.{Frame}
 use Rattle.fold_keys.specs.declared.value.Value.{Value}
@@ -41,20 +40,20 @@ kind_after [] others key all kept = refl
 kind_after (r ∷ rows) others key all kept =
     let each = both (is_of_file r.key) (list_all (λ r. is_of_file r.key) rows) all in
     at (bytes_eq key r.key) refl each.0 (kind_after rows others key each.1 kept)
-    where
-      both : (a b : Bool) → (a && b) ≡ true → (a ≡ true) × (b ≡ true)
-      both true b h = (refl, h)
-      both false b h = absurd (false≢true h)
+  where
+    both : (a b : Bool) → (a && b) ≡ true → (a ≡ true) × (b ≡ true)
+    both true b h = (refl, h)
+    both false b h = absurd (false≢true h)
 
-      at : (b : Bool) → bytes_eq key r.key ≡ b
-          → is_of_file r.key ≡ true → kind_in (rows ++ others) key ≡ kind_in others key
-          → (if bytes_eq key r.key then Some r.kind else kind_in (rows ++ others) key)
-          ≡ kind_in others key
-      at true h of_file rest =
-          let same : key ≡ r.key = (bytes_eq-Decides key r.key).0 h in
-          absurd (false≢true (sym kept ∙ ap is_of_file same ∙ of_file))
-      at false h of_file rest =
-          ap (λ b. if b then Some r.kind else kind_in (rows ++ others) key) h ∙ rest
+    at : (b : Bool) → bytes_eq key r.key ≡ b
+        → is_of_file r.key ≡ true → kind_in (rows ++ others) key ≡ kind_in others key
+        → (if bytes_eq key r.key then Some r.kind else kind_in (rows ++ others) key)
+        ≡ kind_in others key
+    at true h of_file rest =
+        let same : key ≡ r.key = (bytes_eq-Decides key r.key).0 h in
+        absurd (false≢true (sym kept ∙ ap is_of_file same ∙ of_file))
+    at false h of_file rest =
+        ap (λ b. if b then Some r.kind else kind_in (rows ++ others) key) h ∙ rest
 
 same_kind : (key : List ℕ) → is_left_out key ≡ false → kind_by true key ≡ kind_by false key
 same_kind key kept =
@@ -96,7 +95,7 @@ given_kept P turn (e ∷ es) all = at (is_left_out e.key) refl (given_kept P tur
         (record { writable = turn e h all.0; kept = h }, rest)
 
 -- whichever frame of the file it is
-at_each : (P : List Entry → Type 0) → P [] → (fs : List Frame) → AllByRecursion (λ f. P f.entries) fs
+pub at_each : (P : List Entry → Type 0) → P [] → (fs : List Frame) → AllByRecursion (λ f. P f.entries) fs
     → (i : ℕ) → P (entries_at fs i)
 at_each P none [] all i = none
 at_each P none (f ∷ fs) all Prim.Native.Nat.zero = all.0
@@ -158,7 +157,7 @@ key_insert P (e ∷ es) k v all is = at (bytes_eq k e.0) refl (key_insert P es k
         subst (λ b. AllByRecursion P (keys_of (if b then (e.0, v) ∷ es else e ∷ insert_entry bytes_eq es k v)))
         (sym h) (all.0, rest)
 
-apart : (x y : List ℕ) → bytes_eq x y ≡ false → bytes_eq y x ≡ false
+pub apart : (x y : List ℕ) → bytes_eq x y ≡ false → bytes_eq y x ≡ false
 apart x y h = at (bytes_eq y x) refl
   where
     at : (b : Bool) → bytes_eq y x ≡ b → b ≡ false

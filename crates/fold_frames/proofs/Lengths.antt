@@ -1,10 +1,9 @@
 -- the lists of an effective frame can be counted
-use Rattle.std.proofs.Common.{◌≡◌, ℕ, suc, ◌<◌, ◌^◌, List, [], ◌∷◌, map, length, cond, ap, refl, sym, ◌∙◌, subst, arith, Bool, true, false, Option, Some, None, IfSome, ◌||◌, nat_lt}
+use Rattle.std.proofs.Common.{◌≡◌, ℕ, suc, ◌<◌, ◌^◌, List, [], ◌∷◌, map, length, cond, ap, refl, sym, ◌∙◌, subst, arith, Bool, true, false, Some, None, IfSome, ◌||◌, nat_lt}
 use Rattle.std.specs.List.{list_any, position, position_or_len}
 use Rattle.std.proofs.lemmas.Bool.{ltb-true}
 use Rattle.std.proofs.lemmas.Option.{same_Some}
 use Rattle.json_tree.specs.declared.tree.Json.{Json}
-use Rattle.json_tree.specs.declared.tree.Json.TheViews as trees
 use Rattle.json_tree.proofs.Trees.{every_length}
 use Rattle.fold_keys.specs.Short.{HasShortList, HasShortLists}
 use Rattle.fold_keys.specs.Trees.{tree_of_value, tree_of_all, tree_of_number, tree_of_word, tree_of_id, tree_or_null, tree_of_pair, tree_of_letter, tree_of_order}

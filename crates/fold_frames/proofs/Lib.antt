@@ -5,4 +5,5 @@ pub mod Found
 pub mod Kept
 pub mod Lengths
 pub mod FirstOf
-pub mod OneWay
+pub mod OneFrame
+pub mod ByKey

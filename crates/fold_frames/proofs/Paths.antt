@@ -1,5 +1,5 @@
 -- paths from a frame to its parents
-use Rattle.std.proofs.Common.{◌≡◌, ℕ, suc, ◌+◌, ◌<◌, ◌≤◌, List, [], ◌∷◌, ◌++◌, length, set, get_or, replicate, inl, inr, refl, sym, ◌∙◌, ap, subst, Bool, true, false, Option, Some, None, arith}
+use Rattle.std.proofs.Common.{◌≡◌, ℕ, suc, ◌<◌, List, [], ◌∷◌, ◌++◌, length, set, get_or, replicate, inl, inr, refl, sym, ◌∙◌, ap, subst, Bool, true, false, Option, Some, arith}
 use Rattle.std.specs.List.{AllByRecursion}
 use Rattle.std.specs.Prelude.{All, Contains, AllPairs, ◌≢◌, slice_index_or, option_and_then}
 use Rattle.std.proofs.lemmas.Option.{slice_get_read}
@@ -9,7 +9,7 @@ use Rattle.std.proofs.lemmas.List.Elements.{Contains-append_left, Contains-appen
 use Rattle.std.proofs.lemmas.List.Quantifiers.{all_pairs_push}
 use Rattle.fold_keys.specs.declared.value.Frame.{Frame}
 use Rattle.fold_keys.proofs.Entries.{all_more}
-use Rattle.fold_frames.specs.Parents.{parent_of, parent_at, IsPath, IsWay, LeavesAt, ReturnsAt}
+use Rattle.fold_frames.specs.Parents.{parent_of, parent_at, IsPath, IsWay, ReturnsAt}
 
 module _ (frames : List Frame) where
   pub path_more : (k : ℕ) (path : List ℕ) (here next : ℕ) → IsPath frames k path here

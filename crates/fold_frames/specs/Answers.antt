@@ -1,8 +1,9 @@
 -- what following parents answers
-use Rattle.std.specs.Prelude.{◌≡◌, ◌≤◌, ℕ, List, map, Result, Ok, Err, length}
+use Rattle.std.specs.Prelude.{◌≡◌, ◌≤◌, ℕ, List, Result, Ok, Err, length}
 use Rattle.fold_keys.specs.declared.value.Entry.{Entry}
 use Rattle.fold_keys.specs.declared.value.Frame.{Frame}
 use Rattle.fold_frames.specs.Parents.{IsWay, LeavesAt, ReturnsAt}
+use Rattle.fold_frames.specs.Effects.{FrameInEffect}
 use Rattle.fold_frames.specs.Inherits.{pairs, inherited}
 use Rattle.fold_frames.specs.declared.fault.FrameFault.{FrameFault}
 use Rattle.fold_frames.specs.declared.fault.FrameFault.TheVariants as faults
@@ -29,8 +30,11 @@ abbrev pub AreInherited : List Frame → ℕ → List Entry → Type 0
 AreInherited frames k entries =
     (way : List ℕ) × IsWay frames k way × (pairs entries ≡ inherited frames way)
 
+-- this is frame k with all that it inherits
+abbrev pub IsEffective : List Frame → ℕ → FrameInEffect → Type 0
+IsEffective frames k f = (f.frame ≡ k) × AreInherited frames k f.entries
+
 -- the frame with what it inherits, or why it has none
 abbrev pub AnswersEffective : List Frame → ℕ → Result Effective FrameFault → Type 0
-AnswersEffective frames k (Ok effective) =
-    (effective.frame ≡ k) × AreInherited frames k effective.entries
+AnswersEffective frames k (Ok f) = IsEffective frames k f
 AnswersEffective frames k (Err fault) = AnswersNone frames k fault

@@ -188,8 +188,8 @@ impl Effective {
     fn past_at(&self, key: &str, part: Part) -> Option<u32>
         ensures { option_map (λ place. (key.now, place)) result ≡ past_at self.now.entries (key.now, part) }
     {
-        let count = self.count(part)?;
-        let place = place_past(self.get(key.as_bytes())?, count)?;
+        let known = self.count(part)?;
+        let place = place_past(self.get(key.as_bytes())?, known)?;
         Some(place as u32)
     }
 }

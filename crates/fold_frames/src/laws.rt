@@ -1,17 +1,35 @@
-ghost use Rattle.std.specs.Prelude.{◌≡◌, ◌⊎◌, ℕ, List};
+ghost use Rattle.std.specs.Prelude.{◌≡◌, ◌⊎◌, ◌↔◌, ℕ, List, Some};
+ghost use Rattle.fold_keys.specs.Writable.{IsWritable};
+ghost use Rattle.fold_keys.specs.declared.value.Entry.{Entry};
+ghost use Rattle.fold_keys.specs.declared.value.FoldFile.{FoldFile as File};
 ghost use Rattle.fold_keys.specs.declared.value.Frame.{Frame};
-ghost use Rattle.fold_frames.specs.Answers.{HasNone};
-ghost use Rattle.fold_frames.specs.Parents.{IsWay};
+ghost use Rattle.fold_keys.specs.declared.value.Value.{Value};
+ghost use Rattle.fold_frames.specs.Answers.{AreInherited, HasNone};
+ghost use Rattle.fold_frames.specs.Inherits.{HasInEffect};
+ghost use Rattle.fold_frames.specs.Parents.{value_at};
 ghost use Rattle.fold_frames.specs.declared.fault.FrameFault.{FrameFault};
 
-/// Each number either has one way of frames from which it inherits, or one cause why it has none.
-pub fn one_way_or_cause()
-    ensures some { (frames : List Frame) (k : ℕ) → ((way : List ℕ) × IsWay frames k way)
+use fold_keys::writable_entries;
+
+/// Each number has the entries of one effective frame, or one cause why it has none.
+pub fn one_effective_frame()
+    ensures some { (frames : List Frame) (k : ℕ) →
+        ((entries : List Entry) × AreInherited frames k entries)
         ⊎ ((fault : FrameFault) × HasNone frames k fault) }
-    ensures one_way { (frames : List Frame) (k : ℕ) (v w : List ℕ) → IsWay frames k v →
-        IsWay frames k w → v ≡ w }
-    ensures one_cause { (frames : List Frame) (k : ℕ) (s t : FrameFault) → HasNone frames k s →
-        HasNone frames k t → s ≡ t }
-    ensures apart { (frames : List Frame) (k : ℕ) (way : List ℕ) (fault : FrameFault) →
-        IsWay frames k way → HasNone frames k fault → ⊥ }
+    ensures one { (frames : List Frame) (k : ℕ) (entries others : List Entry) →
+        AreInherited frames k entries → AreInherited frames k others → entries ≡ others }
+    ensures one_cause { (frames : List Frame) (k : ℕ) (fault other : FrameFault) →
+        HasNone frames k fault → HasNone frames k other → fault ≡ other }
+    ensures apart { (frames : List Frame) (k : ℕ) (entries : List Entry) (fault : FrameFault) →
+        AreInherited frames k entries → HasNone frames k fault → ⊥ }
 {}
+
+/// An effective frame has a key with a value exactly where the frame itself gives it, or the first of
+/// its parents that gives the key.
+pub fn inherited_by_key()
+    ensures { (file : File) → IsWritable file → (k : ℕ) (entries : List Entry) →
+        AreInherited file.frames k entries → (key : List ℕ) (value : Value) →
+        (value_at entries key ≡ Some value) ↔ HasInEffect file.frames k key value }
+{
+    writable_entries();
+}

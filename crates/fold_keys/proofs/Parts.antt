@@ -1,19 +1,19 @@
 -- a writable file by its frames and their entries
-use Rattle.std.proofs.Common.{◌≡◌, ◌⊎◌, inl, inr, ℕ, suc, ◌<◌, ◌≤◌, ◌^◌, List, [], ◌∷◌, map, length, refl, sym, ◌∙◌, ap, subst, Bool, true, false, Option, Some, None, arith}
+use Rattle.std.proofs.Common.{◌≡◌, inl, inr, ℕ, suc, ◌<◌, ◌≤◌, ◌^◌, List, [], ◌∷◌, map, length, refl, sym, ◌∙◌, ap, subst, Bool, true, false, Option, Some, None, arith}
 use Rattle.std.specs.Prelude.{codes, option_and_then}
 use Rattle.std.specs.List.{AllByRecursion}
 use Rattle.std.proofs.lemmas.Option.{same_Some}
 use Rattle.json_tree.specs.At.{value_of}
-use Rattle.json_tree.specs.Tree.{nesting, nesting_of_member, largest, keys, AreDistinct, HasDistinctKeys, HasDistinctKeysThroughout, IsProper, IsProperWithin}
+use Rattle.json_tree.specs.Tree.{nesting, nesting_of_member, largest, keys, AreDistinct, HasDistinctKeys, IsProperWithin}
 use Rattle.json_tree.specs.declared.tree.Json.{Json, Json-F, out-Json}
 use Rattle.json_tree.specs.declared.tree.Json.TheOpen as layers
 use Rattle.json_tree.specs.declared.tree.Json.TheViews as trees
 use Rattle.json_tree.specs.declared.tree.Member.{Member}
-use Rattle.json_tree.proofs.Trees.{nesting-List, nesting-Object, nesting_of_member-is, every_items, every_members, every_value, every_keys, every_length, every-List, every-Object, every_member}
+use Rattle.json_tree.proofs.Trees.{nesting-List, nesting-Object, nesting_of_member-is, every_keys, every_length, every-List, every-Object, every_member}
 use Rattle.fold_keys.specs.Shape.{kind_by, items_of_layer, others_among}
 use Rattle.fold_keys.specs.Short.{HasShortList, HasShortLists, HasShortNumber, HasShortSpec, HasShortSpecLayer}
 use Rattle.fold_keys.specs.Trees.{tree_of_value, member_of, tree_of_frame, tree_of_file}
-use Rattle.fold_keys.specs.Writable.{IsOfKind, Fits, FitsOther, Fit, HavePlace, IsWritable, IsWritableEntry, AreWritable, HaveWritable, file_of}
+use Rattle.fold_keys.specs.Writable.{Fits, FitsOther, Fit, HavePlace, IsWritable, IsWritableEntry, AreWritable, HaveWritable, file_of}
 use Rattle.fold_keys.specs.declared.kind.Kind.TheVariants as kinds
 use Rattle.fold_keys.specs.declared.value.Entry.{Entry}
 use Rattle.fold_keys.specs.declared.value.FoldFile.{FoldFile}

@@ -1,4 +1,4 @@
-use Rattle.std.proofs.Common.{rules, ◌≡◌, map, ◌++◌, ◌∷◌, [], sym, ◌∙◌, ap, ap₂}
+use Rattle.std.proofs.Common.{rules, ◌≡◌, map, ◌∙◌, ap}
 use Rattle.std.specs.Map.Iter.{deref_pair}
 use Rattle.std.proofs.lemmas.Map.Iter.{iter_end}
 use Rattle.fold_frames.proofs.Merge.{copied_more}

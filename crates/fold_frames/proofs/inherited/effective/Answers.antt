@@ -1,5 +1,4 @@
-use Rattle.std.proofs.Common.{rules, ◌≡◌, All, ◌<◌, length, List, sym, ◌∙◌, ap, subst, ℕ}
-use Rattle.fold_keys.specs.declared.value.Frame.{Frame}
+use Rattle.std.proofs.Common.{◌≡◌, All, ◌<◌, length, sym, ◌∙◌, ap, subst}
 use Rattle.fold_frames.specs.Inherits.{pairs, inherited}
 use Rattle.fold_frames.proofs.Kept.{in_effect}
 use Rattle.fold_frames.proofs.Paths.{way_within}

@@ -1,6 +1,6 @@
 use Rattle.std.proofs.Common.{rules, ◌≡◌, map, refl, sym, ◌∙◌, ap, false}
 use Rattle.std.specs.Str.{bytes_eq}
-use Rattle.indexmap.specs.IndexMap.{insert_all, insert_entry}
+use Rattle.indexmap.specs.IndexMap.{insert_all}
 use Rattle.fold_frames.specs.Inherits.{is_left_out}
 use Rattle.fold_frames.proofs.Merge.{shown_insert, given_one, inserted}
 use Rattle.fold_frames.proofs.inherited.put_entry.Goals as goal

@@ -1,4 +1,4 @@
-use Rattle.std.proofs.Common.{rules, ◌≡◌, ◌++◌, [], ◌∷◌, sym, ◌∙◌, refl, false, get_or}
+use Rattle.std.proofs.Common.{rules, ◌≡◌, ◌++◌, [], ◌∷◌, refl}
 use Rattle.fold_frames.proofs.Paths.{parent_here, unmarked_less, walked_more, returns_here, mark_is}
 use Rattle.fold_frames.proofs.parents.way.Goals as goal
 

@@ -1,13 +1,16 @@
--- following parents from a frame ends in one way
-use Rattle.std.proofs.Common.{◌≡◌, ◌⊎◌, inl, inr, ℕ, suc, ◌+◌, ◌-◌, ◌<◌, ◌≤◌, List, [], ◌∷◌, ◌++◌, length, get_or, replicate, set, refl, sym, ◌∙◌, ap, subst, Bool, true, false, Option, Some, None, append_assoc, arith}
+-- a frame has one effective frame, as following parents from it ends in one way
+use Rattle.std.proofs.Common.{◌≡◌, ◌⊎◌, inl, inr, ℕ, suc, ◌<◌, ◌≤◌, List, [], ◌∷◌, ◌++◌, length, get_or, map, replicate, set, refl, sym, ◌∙◌, ap, subst, Bool, true, false, Option, Some, None, arith}
 use Rattle.std.specs.Prelude.{AllPairs, Contains, ◌≢◌}
 use Rattle.std.proofs.lemmas.Bool.{cases_lt}
-use Rattle.std.proofs.lemmas.List.{get_or_append_left, get_or_default}
+use Rattle.std.proofs.lemmas.List.{get_or_append_left}
 use Rattle.std.proofs.lemmas.List.Elements.{Contains-append_right}
 use Rattle.std.proofs.lemmas.Option.{same_Some}
 use Rattle.std.proofs.Math.Seq.{get_or-append_seam}
+use Rattle.fold_keys.specs.declared.value.Entry.{Entry}
 use Rattle.fold_keys.specs.declared.value.Frame.{Frame}
-use Rattle.fold_frames.specs.Answers.{HasNone}
+use Rattle.fold_keys.specs.declared.value.Value.{Value}
+use Rattle.fold_frames.specs.Answers.{AreInherited, HasNone}
+use Rattle.fold_frames.specs.Inherits.{pairs, inherited}
 use Rattle.fold_frames.specs.Parents.{parent_at, IsPath, IsWay, LeavesAt, ReturnsAt}
 use Rattle.fold_frames.specs.declared.fault.FrameFault.{FrameFault}
 use Rattle.fold_frames.specs.declared.fault.FrameFault.TheVariants as faults
@@ -278,3 +281,47 @@ module _ (frames : List Frame) where
         goes (unmarked met) k k [] met (started frames k met within refl) (omega arith)
     | inr over ↦ inr (faults.NoFrame k, (refl, over))
   ]
+
+-- ---- the entries
+
+entries_of : List (List ℕ × Value) → List Entry
+entries_of ps = map (λ p. record { key = p.0; value = p.1 }) ps
+
+pairs_of : (ps : List (List ℕ × Value)) → pairs (entries_of ps) ≡ ps
+unfolding entries_of
+pairs_of [] = refl
+pairs_of (p ∷ ps) = ap (λ qs. p ∷ qs) (pairs_of ps)
+
+one_pairs : (es fs : List Entry) → pairs es ≡ pairs fs → es ≡ fs
+one_pairs [] [] e = refl
+one_pairs [] (f ∷ fs) e = cc
+one_pairs (x ∷ es) [] e = cc
+one_pairs (x ∷ es) (f ∷ fs) e =
+    let rest : es ≡ fs = one_pairs es fs (tail e) in
+    λ i. record { key = (head e i).0; value = (head e i).1 } ∷ rest i
+  where
+    head : (x.key, x.value) ∷ pairs es ≡ (f.key, f.value) ∷ pairs fs
+        → (let p : List ℕ × Value = (x.key, x.value) in p ≡ (f.key, f.value))
+    head e = cc
+
+    tail : (x.key, x.value) ∷ pairs es ≡ (f.key, f.value) ∷ pairs fs → pairs es ≡ pairs fs
+    tail e = cc
+
+pub some_frame : (frames : List Frame) (k : ℕ)
+    → ((entries : List Entry) × AreInherited frames k entries)
+    ⊎ ((fault : FrameFault) × HasNone frames k fault)
+some_frame frames k = elim (way_or_none frames k) [
+  | inl way ↦
+      let ps = inherited frames way.0 in
+      inl (entries_of ps, (way.0, way.1, pairs_of ps))
+  | inr cause ↦ inr cause
+]
+
+pub one_frame : (frames : List Frame) (k : ℕ) (es fs : List Entry) → AreInherited frames k es
+    → AreInherited frames k fs → es ≡ fs
+one_frame frames k es fs a b =
+    one_pairs es fs (a.2 ∙ ap (inherited frames) (one_way frames k a.0 b.0 a.1 b.1) ∙ sym b.2)
+
+pub frame_or_cause : (frames : List Frame) (k : ℕ) (entries : List Entry) (fault : FrameFault)
+    → AreInherited frames k entries → HasNone frames k fault → ⊥
+frame_or_cause frames k entries fault a b = way_or_cause frames k a.0 fault a.1 b
