@@ -9,3 +9,5 @@ mod RootSearch
 mod OneA
 mod WholeTexts
 mod ExactTexts
+mod Nines
+mod NineTexts

@@ -6,3 +6,4 @@ pub mod Search
 pub mod Kept
 pub mod ExactText
 pub mod WholeText
+pub mod Nine

@@ -1,8 +1,9 @@
 ghost use Rattle.std.specs.Prelude.{◌≡◌, ℕ, ℤ, ◌≤◌, Result, Ok};
 ghost use Rattle.algebra.specs.Surd.{IsNonsquare};
 ghost use Rattle.algebra.specs.LowestTerms.{Parts, IsNumber};
-ghost use Rattle.algebra.specs.NumberField.{HoldsNumbers};
+ghost use Rattle.algebra.specs.NumberField.{HoldsNumbers, IsRadicand};
 ghost use Rattle.number_rules.specs.ExactText.{exact_text_of, AreShort, ReadsExactText};
+ghost use Rattle.number_rules.specs.Nine.{IsNine, IsExactlyNine};
 ghost use Rattle.number_rules.specs.Rows.{IsNear};
 ghost use Rattle.number_rules.specs.declared.unread.Unread.{Unread};
 
@@ -19,4 +20,12 @@ pub fn texts_are_read_back<N>()
         → AreShort (parts x) → ReadsExactText k parts (exact_text_of k (parts x)) r → r ≡ Ok x }
     ensures rational { (parts : N → Parts) (p : Parts) (r : Result N Unread) → IsNumber 1 p → AreShort p
         → ReadsExactText 2 parts (exact_text_of 1 p) r → (y : N) × (r ≡ Ok y) × (parts y ≡ p) }
+{}
+
+/// A number is rounded to nine decimals in one way: there's exactly one such number of billionths, and it's the number
+/// itself where that is a whole number of them.
+pub fn one_nine()
+    ensures once { (k : ℕ) (p : Parts) (m n : ℤ) → IsRadicand k → IsNumber k p → IsNine k p m → IsNine k p n → m ≡ n }
+    ensures exists { (k : ℕ) (p : Parts) → IsRadicand k → k ≤ 3 → IsNumber k p → (m : ℤ) × IsNine k p m }
+    ensures exact { (k : ℕ) (p : Parts) (m : ℤ) → IsNumber k p → IsExactlyNine p m → IsNine k p m }
 {}

@@ -1,0 +1,157 @@
+ghost use Rattle.std.specs.Prelude.{◌≡◌, ℤ, ◌+◌, ◌<◌, ◌≤◌, ◌∷◌, [], ◌++◌, length, take};
+ghost use Rattle.number_rules.specs.ExactText.{AreShort};
+ghost use Rattle.number_rules.specs.Nine.{IsNine, nine_text, size_text, fraction_text, digits_behind};
+
+use crate::nine::round_to_nine;
+use exact_number::Exact;
+use itoa::Buffer;
+
+/// How many bytes a text with nine decimals may take.
+const ROOM: usize = 48;
+
+const BILLION: u64 = 1_000_000_000;
+
+/// Writes the text of a number, rounded to nine decimals, and gives its length: a minus where the rounded number is below
+/// zero, its whole part, and where it isn't whole a point and its decimals without zeros at their end.
+pub fn print9<N: Exact>(value: N, room: &mut [u8; 48]) -> usize
+    requires { AreShort (N.parts value) }
+    ensures within { result ≤ 48 }
+    ensures text { (m : ℤ) × (IsNine N.ROOT (N.parts value) m × (take result room.new ≡ nine_text m)) }
+{
+    put_nine(room, round_to_nine(value).near)
+}
+
+/// So many billionths as a text.
+fn put_nine(room: &mut [u8; 48], billionths: i128) -> usize
+    ensures within { result ≤ 48 }
+    ensures text { take result room.new ≡ nine_text billionths }
+{
+    let size = billionths.unsigned_abs();
+    if billionths < 0 {
+        room[0] = b'-';
+        put_size(room, 1, size)
+    } else {
+        put_size(room, 0, size)
+    }
+}
+
+/// The same behind so many bytes.
+fn put_size(room: &mut [u8; 48], count: usize, size: u128) -> usize
+    requires room { count ≤ 1 }
+    ensures within { result ≤ 48 }
+    ensures text { take result room.new ≡ take count room.old ++ size_text size }
+{
+    let mut digits = Buffer::new();
+    let end = put_all(room, count, digits.format(size / u128::from(BILLION)).as_bytes());
+    put_fraction(room, end, (size % u128::from(BILLION)) as u32)
+}
+
+/// The point and the decimals of `rest` billionths, where there are any.
+fn put_fraction(room: &mut [u8; 48], count: usize, rest: u32) -> usize
+    requires room { count ≤ 38 }
+    requires rest { rest < 1000000000 }
+    ensures within { result ≤ 48 }
+    ensures text { take result room.new ≡ take count room.old ++ fraction_text rest }
+{
+    if rest == 0 {
+        return count;
+    }
+    room[count] = b'.';
+    put_digits(room, count + 1, rest)
+}
+
+/// The decimals of `rest` billionths, until nothing is left.
+fn put_digits(room: &mut [u8; 48], start: usize, rest: u32) -> usize
+    requires room { start ≤ 39 }
+    requires rest { rest < 1000000000 }
+    ensures within { result ≤ 48 }
+    ensures text { take result room.new ≡ take start room.old ++ digits_behind 9 rest }
+{
+    let mut left = u64::from(rest);
+    let mut count = start;
+    for _ in 0..9u32 {
+        if left == 0 {
+            return count;
+        }
+        room[count] = b'0' + (10 * left / BILLION) as u8;
+        left = 10 * left % BILLION;
+        count += 1;
+    }
+    count
+}
+
+/// These bytes behind so many others.
+fn put_all(room: &mut [u8; 48], count: usize, bytes: &[u8]) -> usize
+    requires { count + length bytes.now ≤ 48 }
+    ensures end { result ≡ count + length bytes.now }
+    ensures text { take result room.new ≡ take count room.old ++ bytes.now }
+{
+    let end = count + bytes.len();
+    room[count..end].copy_from_slice(bytes);
+    end
+}
+
+#[cfg(test)]
+mod tests {
+    use super::*;
+    use rational::Rational;
+    use root_two::{RootThree, RootTwo};
+    use std::process::Abort;
+    use std::test::Fail;
+
+    const FAR: i128 = 1 << 92;
+
+    /// Compares the text of (a+b√K)/q.
+    fn writes<N: Exact>(rt: &impl Abort, a: i128, b: i128, q: i128, text: &str) {
+        assert!(rt; q > 0);
+        let Some(number) = N::from_parts(a, b, q) else {
+            return;
+        };
+        let (a, b, q) = number.parts();
+        assert!(rt; a.unsigned_abs() <= 1 << 92);
+        assert!(rt; b.unsigned_abs() <= 1 << 92);
+        assert!(rt; q.unsigned_abs() <= 1 << 92);
+        let mut room = [0u8; 48];
+        let count = print9(number, &mut room);
+        assert_eq!(rt; &room[..count], text.as_bytes(), "{text}");
+    }
+
+    #[test]
+    fn rationals(rt: HostRuntime) {
+        for (a, q, text) in [
+            (0, 1, "0"),
+            (10, 1, "10"),
+            (-1, 2, "-0.5"),
+            (-3, 8, "-0.375"),
+            (1, 3, "0.333333333"),
+            (-2, 3, "-0.666666667"),
+            (1, 1_000_000_000, "0.000000001"),
+            // half a billionth is rounded up
+            (1, 2_000_000_000, "0.000000001"),
+            (-1, 2_000_000_000, "0"),
+            (-3, 2_000_000_000, "-0.000000001"),
+            (FAR, 1, "4951760157141521099596496896"),
+            (-FAR, 3, "-1650586719047173699865498965.333333333"),
+            (-1, FAR, "0"),
+        ] {
+            writes::<Rational>(&rt, a, 0, q, text);
+        }
+    }
+
+    #[test]
+    fn with_roots(rt: HostRuntime) {
+        for (a, b, q, text) in [
+            (-1, 1, 1, "0.414213562"),
+            (1, -1, 1, "-0.414213562"),
+            (1, 2, 3, "1.276142375"),
+            (-99, 70, 1, "-0.005050634"),
+            (FAR, FAR, 1, "11954606528989788589437989174.43227147"),
+            (FAR, -FAR, 7, "-293012316386678055749285054.633181639"),
+            (1, 1, FAR, "0"),
+        ] {
+            writes::<RootTwo>(&rt, a, b, q, text);
+        }
+        writes::<RootThree>(&rt, -1, 1, 1, "0.732050808");
+        writes::<RootThree>(&rt, 5, -3, 2, "-0.098076211");
+    }
+}
