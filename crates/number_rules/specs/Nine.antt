@@ -47,3 +47,7 @@ size_text n = decimal (n / billion) ++ fraction_text (n % billion)
 abbrev pub nine_text : ℤ → List ℕ
 nine_text (pos n) = size_text n
 nine_text (negsuc n) = 45 ∷ size_text (suc n)
+
+-- the text of a number, rounded to nine decimals
+abbrev pub IsNineText : ℕ → Parts → List ℕ → Type 0
+IsNineText k p text = (m : ℤ) × (IsNine k p m × (text ≡ nine_text m))

@@ -1,9 +1,10 @@
-ghost use Rattle.std.specs.Prelude.{◌≡◌, ℕ, ℤ, ◌≤◌, Result, Ok};
+ghost use Rattle.std.specs.Prelude.{◌≡◌, ℕ, ℤ, ◌<◌, ◌≤◌, ◌^◌, unsigned_abs, Result, Ok};
 ghost use Rattle.algebra.specs.Surd.{IsNonsquare};
 ghost use Rattle.algebra.specs.LowestTerms.{Parts, IsNumber};
 ghost use Rattle.algebra.specs.NumberField.{HoldsNumbers, IsRadicand};
+ghost use Rattle.json_tree.specs.Number.{IsNumber as IsNumberText};
 ghost use Rattle.number_rules.specs.ExactText.{exact_text_of, AreShort, ReadsExactText};
-ghost use Rattle.number_rules.specs.Nine.{IsNine, IsExactlyNine};
+ghost use Rattle.number_rules.specs.Nine.{IsNine, IsExactlyNine, nine_text};
 ghost use Rattle.number_rules.specs.Rows.{IsNear};
 ghost use Rattle.number_rules.specs.declared.unread.Unread.{Unread};
 
@@ -28,4 +29,11 @@ pub fn one_nine()
     ensures once { (k : ℕ) (p : Parts) (m n : ℤ) → IsRadicand k → IsNumber k p → IsNine k p m → IsNine k p n → m ≡ n }
     ensures exists { (k : ℕ) (p : Parts) → IsRadicand k → k ≤ 3 → IsNumber k p → (m : ℤ) × IsNine k p m }
     ensures exact { (k : ℕ) (p : Parts) (m : ℤ) → IsNumber k p → IsExactlyNine p m → IsNine k p m }
+{}
+
+/// The text of a whole number of billionths is a number text.
+pub fn nine_texts()
+    ensures number { (m : ℤ) → unsigned_abs m < 10 ^ 64 → IsNumberText (nine_text m) }
+    ensures short { (k : ℕ) (p : Parts) (m : ℤ) → IsRadicand k → k ≤ 3 → IsNumber k p → AreShort p → IsNine k p m
+        → unsigned_abs m ≤ 2 ^ 125 }
 {}

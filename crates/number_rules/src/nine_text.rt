@@ -1,6 +1,6 @@
-ghost use Rattle.std.specs.Prelude.{◌≡◌, ℤ, ◌+◌, ◌<◌, ◌≤◌, ◌∷◌, [], ◌++◌, length, take};
+ghost use Rattle.std.specs.Prelude.{◌≡◌, ◌+◌, ◌<◌, ◌≤◌, ◌∷◌, [], ◌++◌, length, take};
 ghost use Rattle.number_rules.specs.ExactText.{AreShort};
-ghost use Rattle.number_rules.specs.Nine.{IsNine, nine_text, size_text, fraction_text, digits_behind};
+ghost use Rattle.number_rules.specs.Nine.{IsNineText, nine_text, size_text, fraction_text, digits_behind};
 
 use crate::nine::round_to_nine;
 use exact_number::Exact;
@@ -16,7 +16,7 @@ const BILLION: u64 = 1_000_000_000;
 pub fn print9<N: Exact>(value: N, room: &mut [u8; 48]) -> usize
     requires { AreShort (N.parts value) }
     ensures within { result ≤ 48 }
-    ensures text { (m : ℤ) × (IsNine N.ROOT (N.parts value) m × (take result room.new ≡ nine_text m)) }
+    ensures text { IsNineText N.ROOT (N.parts value) (take result room.new) }
 {
     put_nine(room, round_to_nine(value).near)
 }
