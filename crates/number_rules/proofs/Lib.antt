@@ -11,3 +11,4 @@ mod WholeTexts
 mod ExactTexts
 mod Nines
 mod NineTexts
+mod NineValues

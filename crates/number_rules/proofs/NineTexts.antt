@@ -87,7 +87,7 @@ decimal_is_int n h = elim (digits_of n h) [ inl z ↦ inl z.1 | inr d ↦ inr d.
 digit_is : (left : ℕ) → left < billion → IsAsciiDigit (48 + 10 * left / billion)
 digit_is left h = (omega arith, omega (arith, h))
 
-digits_are : (more left : ℕ) → left < billion → AreDigits (digits_behind more left)
+pub digits_are : (more left : ℕ) → left < billion → AreDigits (digits_behind more left)
 unfolding digits_behind
 digits_are zero left h = tt
 digits_are (suc more) left h = by_test (left == 0) (digits_are more (10 * left % billion) (omega arith))

@@ -1,4 +1,4 @@
-ghost use Rattle.std.specs.Prelude.{◌≡◌, ℕ, ℤ, ◌<◌, ◌≤◌, ◌^◌, unsigned_abs, Result, Ok};
+ghost use Rattle.std.specs.Prelude.{◌≡◌, ℕ, ℤ, pos, ◌*ℤ◌, ◌<◌, ◌≤◌, ◌^◌, unsigned_abs, Result, Ok};
 ghost use Rattle.algebra.specs.Surd.{IsNonsquare};
 ghost use Rattle.algebra.specs.LowestTerms.{Parts, IsNumber};
 ghost use Rattle.algebra.specs.NumberField.{HoldsNumbers, IsRadicand};
@@ -6,6 +6,7 @@ ghost use Rattle.json_tree.specs.Number.{IsNumber as IsNumberText};
 ghost use Rattle.number_rules.specs.ExactText.{exact_text_of, AreShort, ReadsExactText};
 ghost use Rattle.number_rules.specs.Nine.{IsNine, IsExactlyNine, nine_text};
 ghost use Rattle.number_rules.specs.Rows.{IsNear};
+ghost use Rattle.number_rules.specs.Value.{numerator, denominator};
 ghost use Rattle.number_rules.specs.declared.unread.Unread.{Unread};
 
 /// For each b there's at most one a with which (a+b√k)/n is near enough to a decimal.
@@ -31,9 +32,11 @@ pub fn one_nine()
     ensures exact { (k : ℕ) (p : Parts) (m : ℤ) → IsNumber k p → IsExactlyNine p m → IsNine k p m }
 {}
 
-/// The text of a whole number of billionths is a number text.
+/// The text of a whole number of billionths is a number text, and its value is that many billionths.
 pub fn nine_texts()
     ensures number { (m : ℤ) → unsigned_abs m < 10 ^ 64 → IsNumberText (nine_text m) }
+    ensures value { (m : ℤ) → unsigned_abs m < 10 ^ 64
+        → numerator (nine_text m) *ℤ pos (10 ^ 9) ≡ m *ℤ pos (denominator (nine_text m)) }
     ensures short { (k : ℕ) (p : Parts) (m : ℤ) → IsRadicand k → k ≤ 3 → IsNumber k p → AreShort p → IsNine k p m
         → unsigned_abs m ≤ 2 ^ 125 }
 {}
