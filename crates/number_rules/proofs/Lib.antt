@@ -12,3 +12,4 @@ mod ExactTexts
 mod Nines
 mod NineTexts
 mod NineValues
+mod Tolerance

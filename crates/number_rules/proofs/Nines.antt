@@ -41,11 +41,11 @@ sign_of_whole k (pos (suc n)) =
 sign_of_whole k (negsuc n) =
     ap (λ (s : Ordering). by_norm s Less Equal) (ap int_sign (sym (without_root k (negsuc n))) ∙ square_positive (negsuc n) (λ e. cc))
 
-at_least_zero : (n : ℤ) → IsTrue (is_ge (int_sign n)) → pos 0 ≤ℤ n
+pub at_least_zero : (n : ℤ) → IsTrue (is_ge (int_sign n)) → pos 0 ≤ℤ n
 at_least_zero (pos n) h = omega (arith, ints)
 at_least_zero (negsuc n) h = absurd (cc)
 
-not_below_zero : (n : ℤ) → pos 0 ≤ℤ n → IsTrue (is_ge (int_sign n))
+pub not_below_zero : (n : ℤ) → pos 0 ≤ℤ n → IsTrue (is_ge (int_sign n))
 not_below_zero (pos zero) h = refl
 not_below_zero (pos (suc n)) h = refl
 not_below_zero (negsuc n) h = absurd (omega (arith, ints, h))

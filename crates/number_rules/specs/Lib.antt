@@ -7,3 +7,4 @@ pub mod Kept
 pub mod ExactText
 pub mod WholeText
 pub mod Nine
+pub mod Within

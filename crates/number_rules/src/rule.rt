@@ -1,6 +1,8 @@
-ghost use Rattle.std.specs.Prelude.{◌≡◌, ◌<◌, ◌≤◌, length};
+ghost use Rattle.std.specs.Prelude.{◌≡◌, ◌<◌, ◌≤◌, length, IfOk};
 ghost use Rattle.number_rules.specs.Rounded.{IsDecimal, IsReadable};
 ghost use Rattle.number_rules.specs.Rows.{Reads, denominator_of, tolerance_of};
+ghost use Rattle.number_rules.specs.Value.{numerator, denominator};
+ghost use Rattle.number_rules.specs.Within.{IsWithin};
 ghost use Rattle.number_rules.specs.Kept.{KeepsItsRow};
 ghost use Rattle.root_two.specs.Roots.{root_parts};
 ghost use Rattle.number_rules.specs.declared.decimal.Decimal.{Decimal};
@@ -33,6 +35,7 @@ impl<N: ExactNumber, F: Fn(Decimal) -> Result<N, Unread>> NumberRule<N, F> {
         requires length { length text.now ≤ 16777216 }
         ensures kept { (d : Decimal) × (IsDecimal text.now d × F.post self.now.call d result) }
         ensures row { (d : Decimal) × (IsDecimal text.now d × Reads N.ROOT N.parts self.now.row d result) }
+    ensures within { IfOk result (λ x. IsWithin N.ROOT (N.parts x) (numerator text.now) (denominator text.now) (tolerance_of self.now.row)) }
     {
         let value = read_decimal(text);
         (self.call)(value)
