@@ -4,6 +4,7 @@ mod Rounding
 mod Steps
 mod Places
 mod Exponents
+mod Signs
 mod Nearest
 mod RootSearch
 mod OneA

@@ -105,13 +105,30 @@ fraction_is rest h = by_test (rest == 0) refl
     by_test : (t : Bool) → (rest == 0) ≡ t → IsFraction (if t then [] else (46 ∷ digits_behind 9 rest)) ⊎ ((if t then [] else (46 ∷ digits_behind 9 rest)) ≡ [])
     by_test true e = inr refl
     by_test false e =
-        inl (digits_behind 9 rest, refl, (48 + 10 * rest / billion, digits_behind 8 (10 * rest % billion), next_digit 8 rest (λ z. no_test (sym (zero_is rest z) ∙ e)), digit_is rest h,
-        digits_are 8 (10 * rest % billion) (omega arith)))
+        inl (
+          digits_behind 9 rest,
+          refl,
+          (
+            48 + 10 * rest / billion,
+            digits_behind 8 (10 * rest % billion),
+            next_digit 8 rest (λ z. no_test (sym (zero_is rest z) ∙ e)),
+            digit_is rest h,
+            digits_are 8 (10 * rest % billion) (omega arith),
+          ),
+        )
 
 size_is_number : (minus : List ℕ) (n : ℕ) → IsMinusOrNone minus → n < 10 ^ 64 → IsNumber (minus ++ (decimal (n / billion) ++ fraction_text (n % billion)))
-size_is_number minus n sign h =
-    (minus, decimal (n / billion), fraction_text (n % billion), [],
-    sym (append_assoc minus (decimal (n / billion)) (fraction_text (n % billion))) ∙ sym (append-nil _), sign, decimal_is_int (n / billion) (omega (arith, h)), fraction_is (n % billion) (omega arith), inr refl)
+size_is_number minus n sign h = (
+  minus,
+  decimal (n / billion),
+  fraction_text (n % billion),
+  [],
+  sym (append_assoc minus (decimal (n / billion)) (fraction_text (n % billion))) ∙ sym (append-nil _),
+  sign,
+  decimal_is_int (n / billion) (omega (arith, h)),
+  fraction_is (n % billion) (omega arith),
+  inr refl,
+)
 
 pub nine_is_number : (m : ℤ) → unsigned_abs m < 10 ^ 64 → IsNumber (nine_text m)
 nine_is_number (pos n) h = size_is_number [] n (inr refl) h

@@ -19,6 +19,7 @@ use Rattle.algebra.proofs.Solvers.{ring, reads, reads_integers, sign_from, known
 use Rattle.number_rules.specs.ExactText.{AreShort}
 use Rattle.number_rules.specs.Nine.{IsNine, IsExactlyNine, IsInReach, sign_past}
 use Rattle.number_rules.specs.Rows.{sign_over}
+use Rattle.number_rules.proofs.Signs.{at_least_zero, not_below_zero, sign_above, sign_below}
 
 -- ---- numbers without a root
 
@@ -40,15 +41,6 @@ sign_of_whole k (pos (suc n)) =
     ap (λ (s : Ordering). by_norm s Greater Equal) (ap int_sign (sym (without_root k (pos (suc n)))) ∙ square_positive (pos (suc n)) (λ e. cc))
 sign_of_whole k (negsuc n) =
     ap (λ (s : Ordering). by_norm s Less Equal) (ap int_sign (sym (without_root k (negsuc n))) ∙ square_positive (negsuc n) (λ e. cc))
-
-pub at_least_zero : (n : ℤ) → IsTrue (is_ge (int_sign n)) → pos 0 ≤ℤ n
-at_least_zero (pos n) h = omega (arith, ints)
-at_least_zero (negsuc n) h = absurd (cc)
-
-pub not_below_zero : (n : ℤ) → pos 0 ≤ℤ n → IsTrue (is_ge (int_sign n))
-not_below_zero (pos zero) h = refl
-not_below_zero (pos (suc n)) h = refl
-not_below_zero (negsuc n) h = absurd (omega (arith, ints, h))
 
 -- ---- what is more stays above zero
 
@@ -129,11 +121,6 @@ large_norm k x y small far =
     taken : (x : ℤ) → x ≡ pos 3 -ℤ (pos 3 -ℤ x)
     taken x = omega (arith, ints)
 
-    sign_above : (d : ℤ) → pos 0 <ℤ d → int_sign d ≡ Greater
-    sign_above (pos (suc n)) h = refl
-    sign_above (pos zero) h = absurd (omega (arith, ints, h))
-    sign_above (negsuc n) h = absurd (omega (arith, ints, h))
-
 pub far_sign : (k : ℕ) (x y : ℤ) → k ≤ 3 → 2 * unsigned_abs y < unsigned_abs x → sign_over k x y ≡ int_sign x
 far_sign k x y small far = ap (λ (s : Ordering). by_norm s (int_sign x) (int_sign y)) (large_norm k x y small far)
 
@@ -173,10 +160,6 @@ quotient_is_farthest (pos (suc n)) above short =
     record { positive = some (2 ^ 125 / suc n) (suc n) (2 ^ 125 % suc n) e r short; within = omega (arith, e); past = omega (arith, e, r) }
 quotient_is_farthest (pos zero) above short = absurd (omega (arith, ints, above))
 quotient_is_farthest (negsuc n) above short = absurd (omega (arith, ints, above))
-
-sign_below : (d : ℤ) → d <ℤ pos 0 → int_sign d ≡ Less
-sign_below (pos n) h = absurd (omega (arith, ints, h))
-sign_below (negsuc n) h = refl
 
 product_is : (m q : ℤ) → pos 0 <ℤ m → pos 0 <ℤ q → m *ℤ q ≡ pos (unsigned_abs m * unsigned_abs q)
 product_is (pos m) (pos q) hm hq = refl
@@ -278,9 +261,10 @@ next_half m = omega (arith, ints)
 -- it lies between what is reached and what isn't
 lies_between : (k : ℕ) (p : Parts) (low high m : ℤ) → IsRadicand k → IsNumber k p → IsTrue (is_ge (sign_past k p (pos 2 *ℤ low -ℤ pos 1))) → sign_past k p (pos 2 *ℤ high -ℤ pos 1) ≡ Less → IsNine k p m
     → (low ≤ℤ m) × (m <ℤ high)
-lies_between k p low high m radicand is reached not_reached nine =
-    (by_cases_le low m (λ less. wrong (sign_past k p (pos 2 *ℤ (m +ℤ pos 1) -ℤ pos 1)) (ap (sign_past k p) (sym (next_half m)) ∙ nine.below_next) (reached_up_to k p (m +ℤ pos 1) low radicand is less reached)),
-    by_cases_lt m high (λ le. wrong (sign_past k p (pos 2 *ℤ high -ℤ pos 1)) not_reached (reached_up_to k p high m radicand is le nine.not_below)))
+lies_between k p low high m radicand is reached not_reached nine = (
+  by_cases_le low m (λ less. wrong (sign_past k p (pos 2 *ℤ (m +ℤ pos 1) -ℤ pos 1)) (ap (sign_past k p) (sym (next_half m)) ∙ nine.below_next) (reached_up_to k p (m +ℤ pos 1) low radicand is less reached)),
+  by_cases_lt m high (λ le. wrong (sign_past k p (pos 2 *ℤ high -ℤ pos 1)) not_reached (reached_up_to k p high m radicand is le nine.not_below)),
+)
   where
     wrong : (s : Ordering) → s ≡ Less → IsTrue (is_ge s) → ⊥
     wrong s e t = let u : IsTrue (is_ge Less) = subst (λ (s : Ordering). IsTrue (is_ge s)) e t in cc
@@ -366,7 +350,7 @@ module _ (k : ℕ) (p : Parts) (small : k ≤ 3) (above : pos 0 <ℤ p.q) where
   pub some_nine : (m : ℤ) × IsNine k p m
   some_nine =
       let found = first_change (λ m. is_ge (sign_past k p (pos 2 *ℤ m -ℤ pos 1))) (2 * past) (neg_ℤ (pos past)) past_reached
-          (ap (λ (m : ℤ). is_ge (sign_past k p (pos 2 *ℤ m -ℤ pos 1))) (two_of past) ∙ ap is_ge past_not_reached) in
+      (ap (λ (m : ℤ). is_ge (sign_past k p (pos 2 *ℤ m -ℤ pos 1))) (two_of past) ∙ ap is_ge past_not_reached) in
       (found.0, last_is_nine k p found.0 (found.0 +ℤ pos 1) refl found.1.0 found.1.1)
     where
       two_of : (n : ℕ) → neg_ℤ (pos n) +ℤ pos (2 * n) ≡ pos n

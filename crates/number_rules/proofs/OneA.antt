@@ -11,6 +11,7 @@ use Rattle.algebra.proofs.Surds.{surds}
 use Rattle.algebra.proofs.Solvers.{sign_from, known, no_sign, not_negative, positive, sum, given, reads}
 use Rattle.number_rules.specs.Rounded.{steps_of_one}
 use Rattle.number_rules.specs.Rows.{IsNear, sign_over}
+use Rattle.number_rules.proofs.Signs.{sign_above}
 
 -- a number that isn't below zero, and one above zero
 larger : {A : Type 0} (K : OrderedRing A) (x y : A) → IsTrue (is_ge (K.sign x)) → K.sign y ≡ Greater → K.sign (K.add x y) ≡ Greater
@@ -28,15 +29,10 @@ not_at_most {k} h x y d z low above e high =
     no_more : (y : ℤ) → y ≡ y +ℤ pos 0
     no_more y = omega (arith, ints)
 
-above_zero_sign : (d : ℤ) → pos 0 <ℤ d → int_sign d ≡ Greater
-above_zero_sign (pos (suc n)) h = refl
-above_zero_sign (pos zero) h = absurd (omega (arith, ints, h))
-above_zero_sign (negsuc n) h = absurd (omega (arith, ints, h))
-
 no_larger : (k n : ℕ) → IsNonsquare k → n ≤ 1000000 → (near a c b : ℤ) → IsNear k n near a b → IsNear k n near c b → ¬ (a <ℤ c)
 no_larger k n h small near a c b na nc less =
     let d : ℤ = ((c *ℤ pos steps_of_one -ℤ pos n *ℤ near) -ℤ pos (n * 10 ^ 11)) -ℤ ((a *ℤ pos steps_of_one -ℤ pos n *ℤ near) +ℤ pos (n * 10 ^ 11)) in
-    not_at_most h _ _ d _ na.not_below (above_zero_sign d (omega (arith, ints, less, small))) (back _ _) nc.not_above
+    not_at_most h _ _ d _ na.not_below (sign_above d (omega (arith, ints, less, small))) (back _ _) nc.not_above
   where
     back : (x z : ℤ) → z ≡ x +ℤ (z -ℤ x)
     back x z = omega (arith, ints)

@@ -17,6 +17,7 @@ use Rattle.number_rules.specs.Rounded.{steps_of_one}
 use Rattle.algebra.specs.LowestTerms.{Parts}
 use Rattle.std.specs.Prelude.{Option, Some, None}
 use Rattle.number_rules.specs.Rows.{IsNear, ComesBefore}
+use Rattle.number_rules.proofs.Signs.{at_least_zero, not_below_zero}
 use Rattle.number_rules.specs.Search.{IsFractionOfRoot, IsRest, StandsAt, StandsAtSize, StandsFirst, multiple_of, start}
 
 -- ---- rests
@@ -52,14 +53,6 @@ quotient_small (pos a) q h e = omega (arith, ints, e, h)
 quotient_small (negsuc a) q h e = omega (arith, ints, e, h)
 
 -- ---- what is near enough leaves little
-
-at_least_zero : (n : ℤ) → IsTrue (is_ge (int_sign n)) → pos 0 ≤ℤ n
-at_least_zero (pos n) h = omega (arith, ints)
-at_least_zero (negsuc n) h = absurd (cc)
-
-not_below_zero : (n : ℕ) → IsTrue (is_ge (int_sign (pos n)))
-not_below_zero zero = refl
-not_below_zero (suc n) = refl
 
 up_a : (k m r s : ℤ) → m *ℤ (r +ℤ pos 1) +ℤ k *ℤ (pos 0 *ℤ s) ≡ m +ℤ m *ℤ r
 up_a k m r s = ring integers (k ∷ m ∷ r ∷ s ∷ []) (search reads_integers depth 40 fits 50000) (search reads_integers depth 40 fits 50000) tt
@@ -117,7 +110,7 @@ module _ (k : ℕ) (h : IsNonsquare k) where
     one = pos steps_of_one
 
     whole_times : (m : ℕ) (x : Surd ℤ) → AtLeastZero x → AtLeastZero (K.mul (K.int (pos m)) x)
-    whole_times m x hx = times (K.int (pos m)) x (subst (λ s. IsTrue (is_ge s)) (sym (K.sign_int (pos m))) (not_below_zero m)) hx
+    whole_times m x hx = times (K.int (pos m)) x (subst (λ s. IsTrue (is_ge s)) (sym (K.sign_int (pos m))) (not_below_zero (pos m) (omega (arith, ints)))) hx
 
     up : (m : ℕ) → AtLeastZero (record { a = pos m +ℤ pos m *ℤ root; b = neg_ℤ (pos m *ℤ one) })
     up m =

@@ -24,7 +24,8 @@ use Rattle.number_rules.specs.declared.decimal.Decimal.{Decimal}
 use Rattle.number_rules.specs.declared.unread.Unread.{Unread}
 use Rattle.number_rules.specs.declared.unread.Row.{Row}
 use Rattle.number_rules.specs.declared.unread.Row.TheVariants.{Exact, Grid, Root}
-use Rattle.number_rules.proofs.Nines.{more, sign_of_whole, at_least_zero, not_below_zero}
+use Rattle.number_rules.proofs.Nines.{more, sign_of_whole}
+use Rattle.number_rules.proofs.Signs.{at_least_zero, not_below_zero, sign_above}
 
 -- ---- signs over a root
 
@@ -158,11 +159,6 @@ sum_up x y hx hy = omega (arith, ints, hx, hy)
 
 not_below : (x : ℤ) → pos 0 <ℤ x → pos 0 ≤ℤ x
 not_below x h = omega (arith, ints, h)
-
-sign_above : (d : ℤ) → pos 0 <ℤ d → int_sign d ≡ Greater
-sign_above (pos (suc n)) h = refl
-sign_above (pos zero) h = absurd (omega (arith, ints, h))
-sign_above (negsuc n) h = absurd (omega (arith, ints, h))
 
 some : (n : ℕ) → 0 < n → pos 0 <ℤ pos n
 some n h = omega (arith, ints, h)

@@ -15,7 +15,7 @@ mod unread;
 mod whole_text;
 
 pub use decimal::{Decimal, read_decimal};
-pub use laws::{one_a_at_each_b, nine_texts, one_nine, texts_are_read_back};
+pub use laws::{nine_texts, one_a_at_each_b, one_nine, texts_are_read_back};
 pub use nine::{Nine, round_to_nine};
 pub use nine_text::print9;
 pub use readers::{read_exact, read_grid, read_root_three, read_root_two};

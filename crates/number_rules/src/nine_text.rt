@@ -42,7 +42,11 @@ fn put_size(room: &mut [u8; 48], count: usize, size: u128) -> usize
     ensures text { take result room.new ≡ take count room.old ++ size_text size }
 {
     let mut digits = Buffer::new();
-    let end = put_all(room, count, digits.format(size / u128::from(BILLION)).as_bytes());
+    let end = put_all(
+        room,
+        count,
+        digits.format(size / u128::from(BILLION)).as_bytes(),
+    );
     put_fraction(room, end, (size % u128::from(BILLION)) as u32)
 }
 

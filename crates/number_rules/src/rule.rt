@@ -35,7 +35,7 @@ impl<N: ExactNumber, F: Fn(Decimal) -> Result<N, Unread>> NumberRule<N, F> {
         requires length { length text.now ≤ 16777216 }
         ensures kept { (d : Decimal) × (IsDecimal text.now d × F.post self.now.call d result) }
         ensures row { (d : Decimal) × (IsDecimal text.now d × Reads N.ROOT N.parts self.now.row d result) }
-    ensures within { IfOk result (λ x. IsWithin N.ROOT (N.parts x) (numerator text.now) (denominator text.now) (tolerance_of self.now.row)) }
+        ensures within { IfOk result (λ x. IsWithin N.ROOT (N.parts x) (numerator text.now) (denominator text.now) (tolerance_of self.now.row)) }
     {
         let value = read_decimal(text);
         (self.call)(value)
