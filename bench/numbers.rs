@@ -41,7 +41,7 @@ fn next(state: u64) -> u64 {
     state.wrapping_mul(6_364_136_223_846_793_005).wrapping_add(1_442_695_040_888_963_407)
 }
 
-fn samples() -> Vec<Rational> {
+fn rationals() -> Vec<Rational> {
     let mut state: u64 = 1;
     (0..1024)
         .map(|_| {
@@ -49,6 +49,32 @@ fn samples() -> Vec<Rational> {
             let numerator = (state >> 24) as i128 - (1 << 39);
             state = next(state);
             Rational::reduced(numerator, (state >> 24) as i128 + 1)
+        })
+        .collect()
+}
+
+const MANY: usize = 65_536;
+
+fn pairs() -> Vec<(i128, i128)> {
+    let mut state: u64 = 1;
+    (0..MANY)
+        .map(|_| {
+            state = next(state);
+            let a = (state >> 4) as i128 - (1 << 59);
+            state = next(state);
+            (a, (state >> 4) as i128 - (1 << 59))
+        })
+        .collect()
+}
+
+/// Parts with a+b√2 between -1 and 1.
+fn near_ties() -> Vec<(i128, i128)> {
+    let mut state: u64 = 1;
+    (0..MANY)
+        .map(|_| {
+            state = next(state);
+            let b = (state >> 5) as i128 - (1 << 58);
+            (-((b * 1_630_477_228_166_597_776) >> 60), b)
         })
         .collect()
 }
@@ -96,39 +122,37 @@ fn sign(a: i128, b: i128) -> Ordering {
     }
 }
 
-fn signs(count: usize) -> i128 {
+fn signs(pairs: &[(i128, i128)], rounds: usize) -> i128 {
     let mut sum: i128 = 0;
-    let mut state: u64 = 1;
-    for _ in 0..count {
-        let mut part = || {
-            state = next(state);
-            (state >> 4) as i128 - (1 << 59)
-        };
-        let (a, b) = (part(), part());
-        sum = sum.wrapping_mul(31).wrapping_add(code_of(sign(a, b)));
+    for _ in 0..rounds {
+        for &(a, b) in pairs {
+            sum = sum.wrapping_mul(31).wrapping_add(code_of(sign(a, b)));
+        }
     }
     sum
 }
 
-fn over_pairs(numbers: &[Rational], count: usize, operation: impl Fn(Rational, Rational) -> i128) -> i128 {
+fn over_pairs(rounds: usize, operation: impl Fn(Rational, Rational) -> i128) -> i128 {
+    let numbers = rationals();
     let mut sum: i128 = 0;
-    for turn in 0..count {
-        let x = numbers[turn % numbers.len()];
-        let y = numbers[(turn / numbers.len()) % numbers.len()];
-        sum = sum.wrapping_mul(31).wrapping_add(operation(x, y));
+    for round in 0..rounds {
+        let first = numbers[round % 1024];
+        for &second in &numbers {
+            sum = sum.wrapping_mul(31).wrapping_add(operation(first, second));
+        }
     }
     sum
 }
 
 fn main() {
     let words: Vec<String> = std::env::args().skip(1).collect();
-    let count: usize = words[1].parse().unwrap();
-    let numbers = samples();
+    let rounds: usize = words[1].parse().unwrap();
     let sum = match words[0].as_str() {
-        "add" => over_pairs(&numbers, count, |x, y| parts_of(x.add(y))),
-        "mul" => over_pairs(&numbers, count, |x, y| parts_of(x.mul(y))),
-        "compare" => over_pairs(&numbers, count, |x, y| order_of(x.compare(y))),
-        "sign" => signs(count),
+        "add" => over_pairs(rounds, |x, y| parts_of(x.add(y))),
+        "mul" => over_pairs(rounds, |x, y| parts_of(x.mul(y))),
+        "compare" => over_pairs(rounds, |x, y| order_of(x.compare(y))),
+        "sign" => signs(&pairs(), rounds),
+        "ties" => signs(&near_ties(), rounds),
         _ => 0,
     };
     println!("{sum}");

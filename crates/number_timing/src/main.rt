@@ -1,93 +1,128 @@
-//! Computes with many exact numbers and prints a checksum, for a clock outside. `number_timing add 1000` adds a thousand
-//! pairs of rationals with parts of 40 bits; the other operations are `mul` and `compare`, and `sign`, of numbers a+b√2
-//! with parts of 60 bits.
+//! Computes with many exact numbers and prints a checksum, for a clock outside. `number_timing add 1000` adds in a thousand
+//! rounds, each of 1,024 pairs of rationals. The other operations are the words of `checksum`.
 #![tactic(auto)]
 
+mod samples;
+
 use exact_number::{Exact, Whole};
+use number_rules::{Unread, print9, read_exact, read_grid, read_root_two};
 use rational::Rational;
-use root_two::RootTwoRing;
+use root_two::{Radicand, RootRing, RootTwo, Three, Two};
 use std::alloc::{AllocError, Global};
 use std::cmp::Ordering;
 use std::{env, io};
 
-const SAMPLES: usize = 1024;
-
 fn main(rt: HostRuntime) -> io::Result<()> {
     let mut words = env::args(&rt)?.skip(1);
     let operation = words.next();
-    let count = match words.next() {
+    let rounds = match words.next() {
         Some(word) => word.as_str().parse::<u32>().unwrap_or(0),
         None => 0,
     };
-    let numbers = samples(rt.alloc())?;
     let sum = match operation {
-        Some(word) => checksum(word.as_str(), &numbers, count),
+        Some(word) => checksum(rt.alloc(), word.as_str(), rounds)?,
         None => 0,
     };
     println!(rt; "{sum}")
 }
 
-fn checksum(operation: &str, numbers: &[Rational], count: u32) -> i128 {
+fn checksum(alloc: Global, operation: &str, rounds: u32) -> Result<i128, AllocError> {
     match operation {
-        "add" => over_pairs(numbers, count, |x, y| parts_of(x.add(y))),
-        "mul" => over_pairs(numbers, count, |x, y| parts_of(x.mul(y))),
-        "compare" => over_pairs(numbers, count, |x, y| order_of(x.compare(y))),
-        "sign" => signs(count),
-        _ => 0,
+        "add" | "mul" | "compare" => over_rationals(alloc, operation, rounds),
+        "read_exact" | "read_grid" | "read_root_two" => over_decimals(alloc, operation, rounds),
+        "sign" => over_signs::<Two>(&samples::pairs(alloc)?, rounds),
+        "sign3" => over_signs::<Three>(&samples::pairs(alloc)?, rounds),
+        "ties" => over_signs::<Two>(&samples::near_ties::<Two>(alloc)?, rounds),
+        "ties3" => over_signs::<Three>(&samples::near_ties::<Three>(alloc)?, rounds),
+        "print9" => Ok(over(&samples::roots(alloc)?, rounds, text_of)),
+        _ => Ok(0),
     }
 }
 
+fn over_rationals(alloc: Global, operation: &str, rounds: u32) -> Result<i128, AllocError> {
+    let numbers = samples::rationals(alloc)?;
+    Ok(match operation {
+        "add" => over_pairs(&numbers, rounds, |x, y| parts_of(x.add(y).map(|z| z.parts()))),
+        "mul" => over_pairs(&numbers, rounds, |x, y| parts_of(x.mul(y).map(|z| z.parts()))),
+        _ => over_pairs(&numbers, rounds, |x, y| order_of(x.compare(y))),
+    })
+}
+
+fn over_decimals(alloc: Global, operation: &str, rounds: u32) -> Result<i128, AllocError> {
+    let values = samples::decimals(alloc)?;
+    Ok(match operation {
+        "read_exact" => over(&values, rounds, |x| {
+            parts_of(read_exact::<Rational>(x).map(|y| y.parts()))
+        }),
+        "read_grid" => over(&values, rounds, |x| {
+            parts_of(read_grid::<Rational>(1000, x).map(|y| y.parts()))
+        }),
+        _ => over(&values, rounds, |x| parts_of(read_root_two(1, x).map(|y| y.parts()))),
+    })
+}
+
+fn over_signs<R: Radicand>(pairs: &[(i128, i128)], rounds: u32) -> Result<i128, AllocError> {
+    Ok(over(pairs, rounds, |(a, b)| {
+        match RootRing::<R>::from_pair(a, b) {
+            Some(number) => code_of(number.sign()),
+            None => 1,
+        }
+    }))
+}
+
+/// Goes over all items in each round.
+fn over<T: Copy, F: Fn(T) -> i128>(items: &[T], rounds: u32, operation: F) -> i128
+    requires { F.IsAlwaysCallable operation }
+{
+    let mut sum: i128 = 0;
+    for _ in 0..rounds {
+        for item in items {
+            sum = sum.wrapping_mul(31).wrapping_add(operation(*item));
+        }
+    }
+    sum
+}
+
+/// Goes over all numbers in each round, with another first one.
 fn over_pairs<F: Fn(Rational, Rational) -> i128>(
     numbers: &[Rational],
-    count: u32,
+    rounds: u32,
     operation: F,
 ) -> i128
     requires { F.IsAlwaysCallable operation }
 {
     let mut sum: i128 = 0;
-    for turn in 0..count as usize {
-        let Some((x, y)) = pair(numbers, turn) else {
+    for round in 0..rounds as usize {
+        let Some(first) = numbers.get(round % 1024) else {
             return 0;
         };
-        sum = sum.wrapping_mul(31).wrapping_add(operation(x, y));
+        for second in numbers {
+            sum = sum
+                .wrapping_mul(31)
+                .wrapping_add(operation(*first, *second));
+        }
     }
     sum
 }
 
-fn signs(count: u32) -> i128 {
-    let mut sum: i128 = 0;
-    let mut state: u64 = 1;
-    for _ in 0..count {
-        let mut part = || {
-            state = next(state);
-            (state >> 4) as i128 - (1 << 59)
-        };
-        let Some(number) = RootTwoRing::from_pair(part(), part()) else {
-            return 0;
-        };
-        sum = sum.wrapping_mul(31).wrapping_add(code_of(number.sign()));
+/// The last bytes and the length of a number's text.
+fn text_of(number: RootTwo) -> i128 {
+    let (a, b, q) = number.parts();
+    let most = 1u128 << 92;
+    if a.unsigned_abs() > most || b.unsigned_abs() > most || q.unsigned_abs() > most {
+        return 1;
     }
-    sum
+    let mut room = [0u8; 48];
+    let count = print9(number, &mut room);
+    i128::from(room[2]).wrapping_add(count as i128)
 }
 
-fn pair(numbers: &[Rational], turn: usize) -> Option<(Rational, Rational)> {
-    if numbers.is_empty() {
-        return None;
-    }
-    let first = turn % numbers.len();
-    let second = (turn / numbers.len()) % numbers.len();
-    Some((numbers[first], numbers[second]))
-}
-
-fn parts_of<E>(number: Result<Rational, E>) -> i128
+fn parts_of<E>(number: Result<(i128, i128, i128), E>) -> i128
 where
     E: Drop,
 {
     match number {
-        Ok(number) => {
-            let (a, _, q) = number.parts();
-            a.wrapping_mul(7).wrapping_add(q)
-        }
+        Ok((a, b, q)) => a.wrapping_mul(7).wrapping_add(q).wrapping_sub(b),
         Err(_) => 1,
     }
 }
@@ -104,27 +139,4 @@ where
 
 fn code_of(order: Ordering) -> i128 {
     3 + i128::from(order.is_gt()) - i128::from(order.is_lt())
-}
-
-/// The next number of a linear congruence.
-fn next(state: u64) -> u64 {
-    state
-        .wrapping_mul(6_364_136_223_846_793_005)
-        .wrapping_add(1_442_695_040_888_963_407)
-}
-
-/// Rationals with numerators and denominators of 40 bits, the same in each run.
-fn samples(alloc: Global) -> Result<Vec<Rational>, AllocError> {
-    let mut numbers = Vec::with_capacity(alloc, SAMPLES)?;
-    let mut state: u64 = 1;
-    for _ in 0..SAMPLES {
-        state = next(state);
-        let numerator = (state >> 24) as i128 - (1 << 39);
-        state = next(state);
-        let denominator = (state >> 24) as i128 + 1;
-        if let Some(number) = Rational::from_parts(numerator, 0, denominator) {
-            numbers.push(number)?;
-        }
-    }
-    Ok(numbers)
 }
