@@ -1,5 +1,5 @@
 -- The pieces of segments with their letters and lines, by tests.
-use mathlib.Core.Path.{◌≡◌, refl, sym, ap, ap₂, subst, ◌∙◌}
+use mathlib.Core.Path.{◌≡◌, sym, subst, ◌∙◌}
 use mathlib.Core.Bool.{Bool, true, false}
 use mathlib.Core.List.{List, [], ◌∷◌, ◌++◌}
 use mathlib.Core.Logic.{◌⊎◌, inl, inr}
@@ -8,8 +8,7 @@ use Rattle.std.proofs.Common.{arith}
 use Rattle.std.proofs.lemmas.Bool.Decides.{Decides-and, Decides-not, Decides-like, Decides-eqb, Decides-ltb}
 use Rattle.std.proofs.lemmas.List.Elements.{Contains-append_left}
 use Rattle.std.specs.Bool.{Decides}
-use Rattle.std.specs.List.{AllZip}
-use Rattle.std.specs.Prelude.{◌&&◌, ◌||◌, not, Contains, All, length, slice_index_or, nat_eq}
+use Rattle.std.specs.Prelude.{◌&&◌, ◌||◌, not, Contains, length, slice_index_or, nat_eq}
 use Rattle.std.specs.Ordering.{is_lt}
 use Rattle.std.specs.declared.cmp.Ordering.TheVariants.{Less, Equal}
 use lib.Dec.{ltb}
@@ -25,11 +24,11 @@ use Rattle.plane.proofs.Order.{equal_of_same}
 use Rattle.plane.proofs.Shares.{on_same}
 use Rattle.scaled_plane.specs.declared.point.Segment.{Segment}
 use Rattle.scaled_plane.specs.declared.drawing.Edge.{Edge}
-use Rattle.scaled_plane.specs.Pieces.{AreLines, ArePieces, Covers, CoversWith, IsFirstCover, IsLine, IsMerged, IsPiece, IsPieceEdge, IsVertex, edge_order, point_at}
+use Rattle.scaled_plane.specs.Pieces.{AreLines, ArePieces, Covers, CoversWith, IsLine, IsMerged, IsPiece, IsPieceEdge, edge_order, point_at}
 use Rattle.drawing_examples.proofs.Letters.{all_letters, any_letter, is_letter, letter_decides, merged, merged_decides}
 use Rattle.drawing_examples.proofs.Lists.{and_first, and_second, at_place, below, below_of, every, every_of, every_decides, first, first_is, or_either, some, some_of, some_decides}
 use Rattle.drawing_examples.proofs.Tests.{between, between_decides, covers, covers_decides, is_same, less_decides, not_first, same_decides}
-use Rattle.drawing_examples.proofs.Cutting.{IsListed, both, cuts_listed, ends_listed, from_point, not_is, points, sorted, sorted_is, to_point, vertex_is, vertex_listed, vertex_point, vertices_only}
+use Rattle.drawing_examples.proofs.Cutting.{both, cuts_listed, ends_listed, from_point, not_is, points, sorted, sorted_is, to_point, vertex_is, vertex_listed, vertex_point, vertices_only}
 
 module _ {A : Type 0} (K : OrderedRing A) (segments : List (Segment A)) (vertices : List (Point A)) where
   abbrev pub has : Point A → Point A → Letter → Bool

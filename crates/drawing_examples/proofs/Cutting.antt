@@ -1,39 +1,28 @@
 -- What segments are cut into, by tests.
-use mathlib.Core.Path.{◌≡◌, refl, sym, ap, ap₂, subst, ◌∙◌}
+use mathlib.Core.Path.{◌≡◌, refl}
 use mathlib.Core.Bool.{Bool, true, false}
-use mathlib.Core.List.{List, [], ◌∷◌, ◌++◌}
-use mathlib.Core.Logic.{◌⊎◌, inl, inr}
-use Prim.Native.Nat.{ℕ, zero, suc, ◌<◌}
-use Rattle.std.proofs.Common.{arith}
-use Rattle.std.proofs.lemmas.Bool.Decides.{Decides-and, Decides-or, Decides-not, Decides-like, Decides-eqb, Decides-ltb}
-use Rattle.std.specs.Bool.{Decides}
-use Rattle.std.specs.List.{AllZip, AllByRecursion}
+use mathlib.Core.List.{List, [], ◌∷◌}
+use mathlib.Core.Logic.{inl, inr}
+use Rattle.std.specs.List.{AllByRecursion}
 use Rattle.std.specs.List.Sorted.{IsStrictlySortedBy}
-use Rattle.std.specs.Prelude.{◌&&◌, ◌||◌, not, Contains, All, length, slice_index_or, nat_eq, IsTrue}
+use Rattle.std.specs.Prelude.{◌&&◌, ◌||◌, not, Contains}
 use Rattle.std.specs.Ordering.{is_le, is_eq, is_lt}
 use Rattle.std.specs.declared.cmp.Ordering.{Ordering}
 use Rattle.std.specs.declared.cmp.Ordering.TheVariants.{Less, Equal, Greater}
-use lib.Dec.{ltb}
-use Rattle.fold_base.specs.declared.letter.Letter.{Letter}
 use Rattle.algebra.specs.Order.{product_sign}
 use Rattle.algebra.specs.OrderedRing.{OrderedRing}
 use Rattle.plane.specs.declared.point.Point.{Point}
-use Rattle.plane.specs.Points.{IsPoint, IsSamePoint, point_order, origin}
+use Rattle.plane.specs.Points.{IsPoint, IsSamePoint, point_order}
 use Rattle.plane.specs.Lines.{side, crossing}
-use Rattle.plane.specs.Segments.{IsOn, IsBetween, IsEnd}
-use Rattle.plane.specs.Directions.{AreParallel, direction, turn}
+use Rattle.plane.specs.Segments.{IsOn}
+use Rattle.plane.specs.Directions.{direction, turn}
 use Rattle.plane.proofs.Crossings.{apart_of_on, common_is_crossing, crossing_point}
-use Rattle.plane.proofs.Lines.{same_turned, same_through}
-use Rattle.plane.proofs.OnSegments.{between_is_on, on_is_between, between_turned}
-use Rattle.plane.proofs.Order.{equal_of_same}
-use Rattle.plane.proofs.Shares.{on_same, side_of_on}
+use Rattle.plane.proofs.Lines.{same_through}
+use Rattle.plane.proofs.Shares.{side_of_on}
 use Rattle.scaled_plane.specs.declared.point.Segment.{Segment}
-use Rattle.scaled_plane.specs.declared.drawing.Edge.{Edge}
-use Rattle.scaled_plane.specs.Lists.{IsListOf}
-use Rattle.scaled_plane.specs.Pieces.{AreLines, ArePieces, AreVertices, Covers, CoversWith, IsCut, IsEndOfOne, IsFirstCover, IsLine, IsMerged, IsPiece, IsPieceEdge, IsProper, IsVertex, edge_order, point_at}
-use Rattle.drawing_examples.proofs.Letters.{all_letters, any_letter, is_letter, letter_decides, merged, merged_decides}
-use Rattle.drawing_examples.proofs.Lists.{and_first, and_second, at_place, below, below_of, every, every_of, first, first_is, or_either, some, some_of, some_decides, every_decides}
-use Rattle.drawing_examples.proofs.Tests.{between, between_decides, covers, covers_decides, equal_decides, is_same, less_decides, lies, lies_decides, not_first, same_decides, true_decides}
+use Rattle.scaled_plane.specs.Pieces.{AreVertices, IsCut, IsEndOfOne, IsProper, IsVertex}
+use Rattle.drawing_examples.proofs.Lists.{and_first, and_second, every, every_of, or_either, some, some_of}
+use Rattle.drawing_examples.proofs.Tests.{equal_decides, is_same, less_decides, lies, lies_decides, same_decides}
 
 abbrev greater : Ordering → Bool
 greater Less = false

@@ -1,5 +1,5 @@
 -- Drawings over the whole numbers, by tests that compute.
-use mathlib.Core.Path.{◌≡◌, refl}
+use mathlib.Core.Path.{◌≡◌}
 use mathlib.Core.Bool.{Bool, true}
 use mathlib.Core.List.{List}
 use Prim.Native.Nat.{ℕ}

@@ -1,24 +1,22 @@
 -- What keeps small drawings from being sheets.
-use mathlib.Core.Path.{◌≡◌, refl, sym, ap, subst, ◌∙◌}
+use mathlib.Core.Path.{◌≡◌, refl, sym, subst, ◌∙◌}
 use mathlib.Core.Bool.{Bool, true, false}
 use mathlib.Core.List.{List, [], ◌∷◌}
-use mathlib.Core.Logic.{◌⊎◌, inl, inr}
-use Prim.Native.Nat.{ℕ, ◌<◌}
-use Rattle.std.proofs.Common.{arith}
+use mathlib.Core.Logic.{inl, inr}
+use Prim.Native.Nat.{ℕ}
 use Rattle.std.proofs.lemmas.Bool.Decides.{Decides-eqb}
 use Rattle.std.specs.Prelude.{◌&&◌, ◌||◌, not, Contains, nat_eq}
-use lib.Dec.{ltb}
 use Rattle.algebra.specs.OrderedRing.{OrderedRing}
 use Rattle.plane.specs.declared.point.Point.{Point}
 use Rattle.plane.specs.Points.{IsPoint, IsSamePoint}
-use Rattle.plane.specs.Segments.{IsEnd, IsOn, IsOnBoth}
+use Rattle.plane.specs.Segments.{IsEnd}
 use Rattle.plane.proofs.Members.{in_nil}
 use Rattle.scaled_plane.specs.declared.drawing.Edge.{Edge}
 use Rattle.scaled_plane.specs.declared.drawing.Face.{Face}
 use Rattle.scaled_plane.specs.Lists.{IsReached, begun, gone_on}
 use Rattle.scaled_plane.specs.Pieces.{point_at}
-use Rattle.scaled_plane.specs.Sheets.{AreBeside, HasOneFace, HasSide, MeetBesideEnds}
-use Rattle.scaled_plane.specs.Walks.{AreJoined, IsDirectedPiece, IsFaceWalk, IsWalk}
+use Rattle.scaled_plane.specs.Sheets.{AreBeside, HasSide, MeetBesideEnds}
+use Rattle.scaled_plane.specs.Walks.{AreJoined, IsDirectedPiece, IsWalk}
 use Rattle.scaled_plane.specs.WellSet.{HasEnd}
 use Rattle.drawing_examples.proofs.Cutting.{not_is}
 use Rattle.drawing_examples.proofs.Lists.{and_first, and_second, every, every_of}

@@ -1,13 +1,13 @@
 -- Which piece follows which, by tests.
-use mathlib.Core.Path.{◌≡◌, refl, sym, subst, ◌∙◌}
-use mathlib.Core.Bool.{Bool, true, false}
+use mathlib.Core.Path.{◌≡◌, subst}
+use mathlib.Core.Bool.{Bool, true}
 use mathlib.Core.List.{List, [], ◌∷◌}
 use mathlib.Core.Logic.{◌⊎◌, inl, inr}
 use Prim.Native.Nat.{ℕ}
 use Rattle.std.proofs.lemmas.Bool.Decides.{Decides-and, Decides-or, Decides-eqb}
 use Rattle.std.specs.Bool.{Decides}
 use Rattle.std.specs.List.{AllByRecursion}
-use Rattle.std.specs.Prelude.{◌&&◌, ◌||◌, not, Contains, nat_eq}
+use Rattle.std.specs.Prelude.{◌&&◌, ◌||◌, not, nat_eq}
 use Rattle.std.specs.Ordering.{is_lt}
 use Rattle.algebra.specs.OrderedRing.{OrderedRing}
 use Rattle.plane.specs.declared.point.Point.{Point}
@@ -35,10 +35,10 @@ module _ {A : Type 0} (K : OrderedRing A) where
       (Decides-and (right f d) (right d e) (right_decides f d) (right_decides d e)))
 
   module _ (vertices : List (Point A)) (edges : List Edge) where
-    abbrev joins : ℕ → ℕ → Edge → Bool
+    abbrev pub joins : ℕ → ℕ → Edge → Bool
     joins u v e = (nat_eq e.from u && nat_eq e.to v) || (nat_eq e.from v && nat_eq e.to u)
 
-    joined : (u v : ℕ) → some (joins u v) edges ≡ true → IsDirectedPiece edges u v
+    pub joined : (u v : ℕ) → some (joins u v) edges ≡ true → IsDirectedPiece edges u v
     joined u v h =
         (some_decides (joins u v) (λ e. ((e.from ≡ u) × (e.to ≡ v)) ⊎ ((e.from ≡ v) × (e.to ≡ u))) edges
         (λ e i. Decides-or (nat_eq e.from u && nat_eq e.to v) (nat_eq e.from v && nat_eq e.to u)
@@ -66,7 +66,7 @@ module _ {A : Type 0} (K : OrderedRing A) where
           ]
         ]
 
-    where_at : (n v : ℕ) (b : Bool) → n ≡ v → (not (nat_eq n v) || b) ≡ true → b ≡ true
+    pub where_at : (n v : ℕ) (b : Bool) → n ≡ v → (not (nat_eq n v) || b) ≡ true → b ≡ true
     where_at n v b e h = elim (or_either (not (nat_eq n v)) b h) [ inl f ↦ absurd (not_is (nat_eq n v) f ((Decides-eqb n v).1 e)) | inr g ↦ g ]
 
     pub after_is : (u v w : ℕ) → comes_after u v w ≡ true → ComesAfter K vertices edges u v w

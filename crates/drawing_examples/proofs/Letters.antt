@@ -1,8 +1,7 @@
 -- Letters told apart, and the letter that is left of several.
 use mathlib.Core.Path.{◌≡◌, refl, sym, ap, ◌∙◌}
-use mathlib.Core.Bool.{Bool, true, false}
+use mathlib.Core.Bool.{Bool, false}
 use mathlib.Core.List.{List, [], ◌∷◌}
-use mathlib.Core.Logic.{◌⊎◌, inl, inr}
 use Prim.Native.Nat.{ℕ, zero, suc}
 use Rattle.std.proofs.Common.{arith}
 use Rattle.std.proofs.lemmas.Bool.Decides.{Decides-and, Decides-or, Decides-not, Decides-like, Decides-eqb}
@@ -10,7 +9,6 @@ use Rattle.std.specs.Bool.{Decides}
 use Rattle.std.specs.Prelude.{◌&&◌, ◌||◌, not, Contains, nat_eq}
 use Rattle.fold_base.specs.declared.letter.Letter.{Letter}
 use Rattle.fold_base.specs.declared.letter.Letter.TheVariants.{Border, Mountain, Valley, Flat, Unassigned, Cut, Join}
-use Rattle.plane.proofs.Members.{in_head, in_tail}
 use Rattle.scaled_plane.specs.Pieces.{First, IsMerged}
 
 abbrev number_of : Letter → ℕ

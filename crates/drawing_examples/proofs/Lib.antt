@@ -6,3 +6,4 @@ pub mod Covering
 pub mod Drawings
 pub mod Following
 pub mod Flaws
+pub mod Walking

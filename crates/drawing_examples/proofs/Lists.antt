@@ -1,14 +1,13 @@
 -- Tests over the elements of a list, and what they decide.
-use mathlib.Core.Path.{◌≡◌, refl, sym, ap, subst, ◌∙◌}
+use mathlib.Core.Path.{◌≡◌, refl, sym, ap, subst}
 use mathlib.Core.Bool.{Bool, true, false}
 use mathlib.Core.List.{List, [], ◌∷◌, ◌++◌}
 use mathlib.Core.Logic.{◌⊎◌, inl, inr}
 use Prim.Native.Nat.{ℕ, zero, suc, ◌<◌}
 use Rattle.std.proofs.Common.{arith}
-use Rattle.std.proofs.lemmas.Bool.Decides.{Decides-and, Decides-or, Decides-not, Decides-like}
 use Rattle.std.proofs.lemmas.List.Elements.{All-nil, All-cons}
 use Rattle.std.specs.Bool.{Decides}
-use Rattle.std.specs.Prelude.{◌&&◌, ◌||◌, Contains, All, length, slice_index_or, not, cond}
+use Rattle.std.specs.Prelude.{◌&&◌, ◌||◌, Contains, All, length, slice_index_or, not}
 use Rattle.plane.proofs.Members.{in_cons, in_head, in_tail, in_nil}
 
 pub or_either : (a b : Bool) → (a || b) ≡ true → (a ≡ true) ⊎ (b ≡ true)

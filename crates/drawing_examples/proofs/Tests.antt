@@ -1,10 +1,8 @@
 -- Tests on points and segments, and what they decide.
-use mathlib.Core.Path.{◌≡◌, refl, sym, ap, subst, ◌∙◌}
+use mathlib.Core.Path.{◌≡◌, refl, sym, ap, ◌∙◌}
 use mathlib.Core.Bool.{Bool, true, false}
-use mathlib.Core.List.{List, [], ◌∷◌}
-use mathlib.Core.Logic.{◌⊎◌, inl, inr}
-use lib.IntN.{pos}
-use Rattle.std.proofs.lemmas.Bool.Decides.{Decides-and, Decides-or, Decides-not, Decides-like}
+use mathlib.Core.List.{[], ◌∷◌}
+use Rattle.std.proofs.lemmas.Bool.Decides.{Decides-and, Decides-not, Decides-like}
 use Rattle.std.specs.Bool.{Decides}
 use Rattle.std.specs.Prelude.{◌&&◌, ◌||◌, not, IsTrue}
 use Rattle.std.specs.Ordering.{is_le, is_lt, is_eq, ordering_reverse}

@@ -6,7 +6,7 @@ ghost use Rattle.std.specs.Prelude.{pos, negsuc, [], ◌∷◌};
 ghost use Rattle.fold_base.specs.declared.letter.Letter.TheVariants.{Border, Mountain, Unassigned, Valley};
 ghost use Rattle.algebra.proofs.Integers.{integers};
 ghost use Rattle.scaled_plane.specs.Sheets.{HasFlaw};
-ghost use Rattle.scaled_plane.specs.declared.sheet.SheetFlaw.TheVariants.{SameVertex, Loose, NotPlane, Parted, EmptySheet, FaceWrong, NotConvex, BorderWrong, Severed};
+ghost use Rattle.scaled_plane.specs.declared.sheet.SheetFlaw.TheVariants.{SameVertex, Loose, NotPlane, Parted, EmptySheet, FaceWrong, FaceMissing, NotConvex, BorderWrong, Pinched, Severed};
 ghost use Rattle.drawing_examples.specs.Examples.{AreCutInto, FollowAs, at, crease, edge, face, over};
 
 /// What small drawings are cut into: their vertices in order, their pieces with the letters that are left of those that cover
@@ -103,7 +103,7 @@ pub fn following_pieces()
         (2, 3, 4) ∷ (2, 4, 1) ∷ (3, 0, 1) ∷ (3, 2, 0) ∷ (3, 4, 2) ∷ (4, 1, 2) ∷ (4, 2, 3) ∷ (4, 3, 0) ∷ []) }
 {}
 
-/// What keeps vertices, edges and faces from being a sheet, at one example for each line of the table that speaks of no walk.
+/// What keeps vertices, edges and faces from being a sheet, at an example or two for each line of the table.
 pub fn sheet_flaws()
     ensures same_vertex { HasFlaw integers (at (pos 0) (pos 0) ∷ at (pos 1) (pos 0) ∷ over (pos 0) (pos 0) (pos 2) ∷ []) [] []
         (SameVertex 0 2) }
@@ -118,6 +118,8 @@ pub fn sheet_flaws()
         (edge 0 1 Border ∷ edge 2 3 Border ∷ []) [] (Parted 2) }
     ensures empty_sheet { HasFlaw integers [] [] [] EmptySheet }
     ensures face_twice { HasFlaw integers [] [] (face (0 ∷ 1 ∷ 2 ∷ []) ∷ face (1 ∷ 2 ∷ 0 ∷ []) ∷ []) (FaceWrong 1) }
+    ensures face_missing { HasFlaw integers (at (pos 0) (pos 0) ∷ at (pos 1) (pos 0) ∷ at (pos 0) (pos 1) ∷ [])
+        (edge 0 1 Border ∷ edge 0 2 Border ∷ edge 1 2 Border ∷ []) [] (FaceMissing 0 1) }
     ensures turns_back { HasFlaw integers (at (pos 0) (pos 0) ∷ at (pos 1) (pos 0) ∷ []) (edge 0 1 Border ∷ [])
         (face (0 ∷ 1 ∷ []) ∷ []) (NotConvex 0 0) }
     ensures bent_inwards { HasFlaw integers
@@ -125,5 +127,7 @@ pub fn sheet_flaws()
         [] (face (2 ∷ 3 ∷ 0 ∷ 1 ∷ []) ∷ []) (NotConvex 0 2) }
     ensures border_without_face { HasFlaw integers (at (pos 0) (pos 0) ∷ at (pos 1) (pos 0) ∷ []) (edge 0 1 Border ∷ []) []
         (BorderWrong 0) }
+    ensures pinched { HasFlaw integers (at (pos 0) (pos 0) ∷ at (pos 1) (pos 0) ∷ at (pos 2) (pos 0) ∷ [])
+        (edge 0 1 Border ∷ edge 1 2 Border ∷ []) [] (Pinched 1) }
     ensures severed { HasFlaw integers [] [] (face (0 ∷ 1 ∷ 2 ∷ []) ∷ face (2 ∷ 1 ∷ 3 ∷ []) ∷ []) (Severed 1) }
 {}

@@ -1,10 +1,11 @@
-use Rattle.std.proofs.Common.{arith, refl, inl, inr, [], ◌∷◌, pos, sym}
+use Rattle.std.proofs.Common.{arith, refl, inl, inr, [], ◌∷◌, pos}
 use lib.Dec.{ltb}
 use Rattle.fold_base.specs.declared.letter.Letter.TheVariants.{Border, Mountain, Valley}
 use Rattle.algebra.proofs.Integers.{integers}
-use Rattle.scaled_plane.specs.Walks.{IsFaceWalk}
 use Rattle.drawing_examples.specs.Examples.{at, edge, face}
 use Rattle.drawing_examples.proofs.Flaws.{is_loose, is_parted, meet_beside, no_face_has, no_walk, severed}
+use Rattle.drawing_examples.proofs.Walking.{face_is, outer_is}
+use Rattle.plane.proofs.Members.{in_head}
 use Rattle.drawing_examples.proofs.sheet_flaws.Goals as goal
 
 pub returns-clause-same_vertex : goal.returns-clause-same_vertex
@@ -66,3 +67,20 @@ returns-clause-border_without_face c = (edge 0 1 Border, refl, inl (refl, λ h. 
 
 pub returns-clause-severed : goal.returns-clause-severed
 returns-clause-severed c = (omega arith, λ reached. let e = severed (face (0 ∷ 1 ∷ 2 ∷ []) ∷ face (2 ∷ 1 ∷ 3 ∷ []) ∷ []) reached in omega (arith, e))
+
+pub returns-clause-face_missing : goal.returns-clause-face_missing
+returns-clause-face_missing c = (
+  2 ∷ [],
+  face_is integers (at (pos 0) (pos 0) ∷ at (pos 1) (pos 0) ∷ at (pos 0) (pos 1) ∷ []) (edge 0 1 Border ∷ edge 0 2 Border ∷ edge 1 2 Border ∷ [])
+      (0 ∷ 1 ∷ 2 ∷ []) 2 (omega arith) refl refl refl,
+  λ f corners h. let none = h.1 in absurd (cc),
+)
+
+pub returns-clause-pinched : goal.returns-clause-pinched
+returns-clause-pinched c = (
+  0 ∷ [],
+  2 ∷ [],
+  [],
+  outer_is integers (at (pos 0) (pos 0) ∷ at (pos 1) (pos 0) ∷ at (pos 2) (pos 0) ∷ []) (edge 0 1 Border ∷ edge 1 2 Border ∷ [])
+      (0 ∷ 1 ∷ 2 ∷ 1 ∷ []) 0 1 refl refl refl (in_head (0, 1) ((1, 2) ∷ (2, 1) ∷ (1, 0) ∷ [])),
+)
