@@ -1,5 +1,5 @@
 -- The value of a nine-decimal text: its digits spell the number of billionths.
-use Rattle.std.proofs.Common.{◌≡◌, ◌∙◌, refl, sym, ap, ap₂, subst, ℕ, ℤ, pos, negsuc, zero, suc, ◌+ℤ◌, ◌*ℤ◌, ◌+◌, ◌-◌, ◌*◌, ◌/◌, ◌%◌, ◌^◌, ◌<◌, ◌≤◌, List, [], ◌∷◌, ◌++◌, arith, Bool, true, false, append_assoc}
+use Rattle.std.proofs.Common.{◌≡◌, ◌∙◌, refl, sym, ap, ap₂, subst, ℕ, ℤ, pos, negsuc, zero, suc, ◌*ℤ◌, ◌+◌, ◌-◌, ◌*◌, ◌/◌, ◌%◌, ◌^◌, ◌<◌, ◌≤◌, List, [], ◌∷◌, ◌++◌, arith, Bool, true, false, append_assoc}
 use Rattle.std.proofs.Math.Nat.{pow-suc}
 use Rattle.std.specs.Prelude.{◌==◌, if◌then◌else◌, neg_ℤ, unsigned_abs}
 use Rattle.std.specs.Char.{is_ascii_digit}
@@ -11,7 +11,7 @@ use Rattle.std.proofs.lemmas.Int.{ints}
 use Rattle.algebra.proofs.Integers.{integers}
 use Rattle.algebra.proofs.Solvers.{ring, reads_integers}
 use Rattle.json_tree.specs.Number.{AreDigits}
-use Rattle.number_rules.specs.Nine.{billion, digits_behind, fraction_text, size_text, nine_text}
+use Rattle.number_rules.specs.Nine.{billion, digits_behind, size_text, nine_text}
 use Rattle.number_rules.specs.Value.{is_e, mantissa, exponent, with_digit, with_digits, spelled, begins_with_minus, with_sign, signed, count_digits, places, above_zero, below_zero, numerator, denominator}
 use Rattle.number_rules.proofs.NineTexts.{no_digits, no_more_digits, next_digit, digits_are}
 

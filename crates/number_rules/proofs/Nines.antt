@@ -1,5 +1,5 @@
 -- Rounding to nine decimals: which whole numbers a number reaches, and that one is the last.
-use Rattle.std.proofs.Common.{◌≡◌, ◌∙◌, refl, sym, ap, subst, ℕ, ℤ, pos, negsuc, zero, suc, ◌+◌, ◌-◌, ◌*◌, ◌^◌, ◌<◌, ◌≤◌, ◌+ℤ◌, ◌-ℤ◌, ◌*ℤ◌, ◌<ℤ◌, ◌≤ℤ◌, ◌⊎◌, inl, inr, arith, zero-mul, ◌/◌, ◌%◌, [], ◌∷◌, IsTrue, Bool, true, false}
+use Rattle.std.proofs.Common.{◌≡◌, ◌∙◌, refl, sym, ap, subst, ℕ, ℤ, pos, negsuc, zero, suc, ◌+◌, ◌*◌, ◌^◌, ◌<◌, ◌≤◌, ◌+ℤ◌, ◌-ℤ◌, ◌*ℤ◌, ◌<ℤ◌, ◌≤ℤ◌, inl, inr, arith, zero-mul, ◌/◌, ◌%◌, [], ◌∷◌, IsTrue, Bool, true, false}
 use Rattle.std.specs.Prelude.{unsigned_abs, neg_ℤ, int_div}
 use Rattle.std.specs.Ordering.{is_ge}
 use Rattle.std.specs.declared.cmp.Ordering.{Ordering}
@@ -7,12 +7,11 @@ use Rattle.std.specs.declared.cmp.Ordering.TheVariants.{Less, Equal, Greater}
 use Rattle.std.proofs.Math.Nat.{mul-le-mul_left, mul-le-mul_right, mod-lt}
 use Rattle.std.proofs.lemmas.Nat.{div-add-mod'}
 use Rattle.std.proofs.lemmas.Int.{ints, unsigned_abs-mul}
-use Rattle.algebra.specs.Integers.{int_ops}
 use Rattle.algebra.specs.LowestTerms.{Parts, IsNumber}
 use Rattle.algebra.specs.NumberField.{IsRadicand}
 use Rattle.algebra.specs.Order.{int_sign}
 use Rattle.algebra.specs.OrderedRing.{OrderedRing}
-use Rattle.algebra.specs.Surd.{Surd, IsNonsquare, by_norm}
+use Rattle.algebra.specs.Surd.{Surd, by_norm}
 use Rattle.algebra.proofs.Integers.{integers}
 use Rattle.algebra.proofs.Surds.{surds}
 use Rattle.algebra.proofs.Solvers.{ring, reads, reads_integers, sign_from, known, no_sign, not_negative, positive, sum, product, square, number, given, ring_from, multiple, no_equation}

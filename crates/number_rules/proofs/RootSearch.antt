@@ -1,12 +1,11 @@
 -- The search for roots: rests, and where a rest shows that no a is near enough.
-use Prim.Native.Nat.{zero, suc}
+use Prim.Native.Nat.{suc}
 use Rattle.std.proofs.Common.{◌≡◌, ◌∙◌, refl, sym, ap, subst, ℕ, ℤ, pos, negsuc, ◌+◌, ◌-◌, ◌*◌, ◌^◌, ◌<◌, ◌≤◌, ◌+ℤ◌, ◌-ℤ◌, ◌*ℤ◌, ◌%◌, ◌<ℤ◌, ◌≤ℤ◌, arith, [], ◌∷◌, IsTrue, zero-mul, ◌⊎◌, inl, inr}
 use Rattle.std.proofs.lemmas.Bool.{cases_lt}
 use Rattle.std.proofs.lemmas.Int.{ints}
 use Rattle.std.specs.Prelude.{unsigned_abs, neg_ℤ}
 use Rattle.std.specs.Int.{int_div_euclid, int_rem_euclid}
 use Rattle.std.specs.Ordering.{is_ge, is_le}
-use Rattle.algebra.specs.Order.{int_sign}
 use Rattle.algebra.specs.OrderedRing.{OrderedRing}
 use Rattle.algebra.specs.Surd.{Surd, IsNonsquare}
 use Rattle.algebra.proofs.Integers.{integers}

@@ -1,6 +1,6 @@
 -- An answer of a rule lies within the rule's tolerance of the text's value.
-use Rattle.std.proofs.Common.{◌≡◌, ◌∙◌, refl, sym, ap, ap₂, subst, ℕ, ℤ, pos, negsuc, zero, suc, ◌+◌, ◌*◌, ◌^◌, ◌<◌, ◌≤◌, ◌+ℤ◌, ◌-ℤ◌, ◌*ℤ◌, ◌<ℤ◌, ◌≤ℤ◌, ◌⊎◌, inl, inr, arith, [], ◌∷◌, List, IsTrue, IsFalse, Bool, true, false}
-use Rattle.std.specs.Prelude.{neg_ℤ, Result, Ok, Err, IfOk, ◌↔◌}
+use Rattle.std.proofs.Common.{◌≡◌, ◌∙◌, refl, sym, ap, ap₂, subst, ℕ, ℤ, pos, negsuc, ◌+◌, ◌*◌, ◌^◌, ◌<◌, ◌≤◌, ◌+ℤ◌, ◌-ℤ◌, ◌*ℤ◌, ◌<ℤ◌, ◌≤ℤ◌, inl, arith, [], ◌∷◌, List, IsTrue, IsFalse, Bool, true, false}
+use Rattle.std.specs.Prelude.{neg_ℤ, Result, Ok, Err, IfOk}
 use Rattle.std.specs.Int.{div_ceil}
 use Rattle.std.specs.Ordering.{is_ge, is_le, ordering_reverse}
 use Rattle.std.specs.declared.cmp.Ordering.{Ordering}
@@ -11,13 +11,11 @@ use Rattle.std.proofs.lemmas.Int.{ints}
 use Rattle.algebra.specs.LowestTerms.{Parts, IsReduced, IsNumber}
 use Rattle.algebra.specs.NumberField.{IsRadicand, HoldsNumbers}
 use Rattle.algebra.specs.Order.{int_sign, product_sign}
-use Rattle.algebra.specs.OrderedRing.{OrderedRing}
-use Rattle.algebra.specs.Surd.{Surd, by_norm}
+use Rattle.algebra.specs.Surd.{by_norm}
 use Rattle.algebra.proofs.Integers.{integers}
-use Rattle.algebra.proofs.Surds.{surds}
-use Rattle.algebra.proofs.Solvers.{ring, ring_from, multiple, no_equation, reads, reads_integers, sign_from, sign_of_multiple, sign_neg, known, no_sign, not_negative, not_positive, positive, sum, product, negated, given}
+use Rattle.algebra.proofs.Solvers.{ring, ring_from, multiple, no_equation, reads, reads_integers, sign_from, sign_of_multiple, sign_neg, known, no_sign, not_negative, product, given}
 use Rattle.number_rules.specs.Rounded.{IsRounded, IsDecimal, Keeps, steps_of_one}
-use Rattle.number_rules.specs.Rows.{Gives, IsNear, IsPast, Reads, denominator_of, sign_over, tolerance_of}
+use Rattle.number_rules.specs.Rows.{Gives, IsNear, Reads, denominator_of, sign_over, tolerance_of}
 use Rattle.number_rules.specs.Value.{numerator, denominator}
 use Rattle.number_rules.specs.Within.{IsWithin}
 use Rattle.number_rules.specs.declared.decimal.Decimal.{Decimal}

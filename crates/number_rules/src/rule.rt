@@ -124,18 +124,68 @@ pub fn root_three_rule<F: Fn(Decimal) -> Result<RootThree, Unread>>(
 #[cfg(test)]
 mod tests {
     use super::*;
-    use crate::readers::read_grid;
+    use crate::readers::{read_exact, read_grid, read_root_three, read_root_two};
     use rational::Rational;
     use std::test::Fail;
+
+    #[test]
+    fn by_exact(rt: HostRuntime) -> Result<(), Fail> {
+        let rule = exact_rule(|value: Decimal| read_exact::<Rational>(value));
+        assert_eq!(rt; rule.tolerance(), 0);
+        for (text, parts) in [
+            ("-12.50", Ok((-25, 0, 2))),
+            ("0e999999999999", Ok((0, 0, 1))),
+            ("1.4210854715202004E-14", Err(Unread::Fine)),
+            ("1e-999999999999", Err(Unread::Fine)),
+            ("1e30", Err(Unread::Far)),
+            ("1e999999999999", Err(Unread::Far)),
+        ] {
+            let number = NumberText::read(rt.alloc(), text)?;
+            assert!(rt; number.bytes().len() <= 16_777_216);
+            let read = rule.apply(&number);
+            assert_eq!(rt; read.map(|x| x.parts()), parts, "{text}");
+        }
+        Ok(())
+    }
 
     #[test]
     fn by_a_grid(rt: HostRuntime) -> Result<(), Fail> {
         let rule = grid_rule(1000, |value: Decimal| read_grid::<Rational>(1000, value));
         assert_eq!(rt; rule.tolerance(), 500_000_000_000_001);
-        let number = NumberText::read(rt.alloc(), "0.3335")?;
-        assert!(rt; number.bytes().len() <= 16_777_216);
-        let read = rule.apply(&number);
-        assert_eq!(rt; read.map(|x| x.parts()), Ok((167, 0, 500)));
+        for (text, parts) in [
+            ("0.3335", Ok((167, 0, 500))),
+            ("200.0", Ok((200, 0, 1))),
+            ("1.4210854715202004E-14", Ok((0, 0, 1))),
+            ("1e-999999999999", Ok((0, 0, 1))),
+            ("1e999999999999", Err(Unread::Far)),
+        ] {
+            let number = NumberText::read(rt.alloc(), text)?;
+            assert!(rt; number.bytes().len() <= 16_777_216);
+            let read = rule.apply(&number);
+            assert_eq!(rt; read.map(|x| x.parts()), parts, "{text}");
+        }
+        Ok(())
+    }
+
+    #[test]
+    fn by_roots(rt: HostRuntime) -> Result<(), Fail> {
+        let two = root_two_rule(1, |value: Decimal| read_root_two(1, value));
+        let three = root_three_rule(1, |value: Decimal| read_root_three(1, value));
+        assert_eq!(rt; two.tolerance(), 100_000_000_001);
+        let none = Err(Unread::NoRoot);
+        for (text, over_two, over_three) in [
+            ("0.41421356237310", Ok((-1, 1, 1)), none),
+            ("0.73205080756888", none, Ok((-1, 1, 1))),
+            ("1", Ok((1, 0, 1)), Ok((1, 0, 1))),
+            ("0.5", none, none),
+        ] {
+            let number = NumberText::read(rt.alloc(), text)?;
+            assert!(rt; number.bytes().len() <= 16_777_216);
+            let read = two.apply(&number);
+            assert_eq!(rt; read.map(|x| x.parts()), over_two, "{text}");
+            let read = three.apply(&number);
+            assert_eq!(rt; read.map(|x| x.parts()), over_three, "{text}");
+        }
         Ok(())
     }
 }

@@ -1,5 +1,5 @@
-use Rattle.std.proofs.Common.{rules, arith, ap, sym, subst, FitsSigned, pos, ℤ, ◌≡◌, ◌≤◌, ◌^◌, ◌<ℤ◌, false}
-use Rattle.std.specs.Prelude.{unsigned_abs, int_div}
+use Rattle.std.proofs.Common.{rules, arith, ap, sym, subst, FitsSigned, pos, ℤ, ◌≡◌, ◌^◌, ◌<ℤ◌}
+use Rattle.std.specs.Prelude.{int_div}
 use Rattle.std.specs.Int.{w128}
 use Rattle.std.specs.Ordering.{is_ge}
 use Rattle.std.proofs.lemmas.Int.{to_z-of_z, fits_signed_from_abs}

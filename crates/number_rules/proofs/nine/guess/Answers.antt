@@ -1,4 +1,4 @@
-use Rattle.std.proofs.Common.{arith, ap, sym, subst, pos, ℤ, ◌≤◌, ◌^◌, ◌<ℤ◌}
+use Rattle.std.proofs.Common.{arith, sym, subst, pos, ◌≤◌, ◌^◌, ◌<ℤ◌}
 use Rattle.std.specs.Prelude.{unsigned_abs}
 use Rattle.std.proofs.lemmas.Int.{ints}
 use Rattle.algebra.specs.LowestTerms.{Parts}

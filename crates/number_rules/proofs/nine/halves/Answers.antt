@@ -1,4 +1,4 @@
-use Rattle.std.proofs.Common.{◌≡◌, ◌≤◌, ◌^◌, FitsSigned, pos, ℤ, ◌-ℤ◌, ◌*ℤ◌, arith}
+use Rattle.std.proofs.Common.{◌≤◌, ◌^◌, FitsSigned, pos, ◌-ℤ◌, ◌*ℤ◌, arith}
 use Rattle.std.specs.Prelude.{unsigned_abs}
 use Rattle.std.specs.Int.{w128}
 use Rattle.std.proofs.lemmas.Int.{ints, to_z-of_z, fits_signed_from_abs}

@@ -1,6 +1,5 @@
-use Rattle.std.proofs.Common.{rules, ◌∙◌, sym, FitsSigned, ◌≡◌, IsTrue, true, false}
+use Rattle.std.proofs.Common.{rules, ◌∙◌, sym, FitsSigned, ◌≡◌, true, false}
 use Rattle.std.specs.Int.{w128}
-use Rattle.std.specs.Ordering.{is_ge}
 use Rattle.std.proofs.lemmas.Int.{to_z-of_z}
 use Rattle.number_rules.specs.Nine.{IsInReach}
 use Rattle.number_rules.proofs.Nines.{between_reach, last_is_nine, next_to_each_other}

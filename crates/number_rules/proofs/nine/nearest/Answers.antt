@@ -1,4 +1,4 @@
-use Rattle.std.proofs.Common.{rules, arith, refl, ◌∙◌, sym, ap, FitsSigned, pos, ℤ, ◌≡◌, ◌-ℤ◌, ◌+ℤ◌, ◌*ℤ◌, ◌≤ℤ◌, IsTrue, true, false}
+use Rattle.std.proofs.Common.{rules, arith, refl, ◌∙◌, sym, ap, FitsSigned, pos, ℤ, ◌≡◌, ◌-ℤ◌, ◌+ℤ◌, ◌*ℤ◌, ◌≤ℤ◌, true}
 use Rattle.std.specs.Int.{w128}
 use Rattle.std.specs.Ordering.{is_ge}
 use Rattle.std.proofs.lemmas.Int.{ints, to_z-of_z, fits_signed_from_abs}

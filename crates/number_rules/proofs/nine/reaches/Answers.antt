@@ -1,4 +1,4 @@
-use Rattle.std.proofs.Common.{rules, arith, ◌∙◌, ap, ap₂, sym, FitsSigned, pos, ℕ, ℤ, ◌-ℤ◌, ◌*ℤ◌, ◌≡◌}
+use Rattle.std.proofs.Common.{rules, arith, ◌∙◌, ap, ap₂, FitsSigned, pos, ℕ, ◌-ℤ◌, ◌*ℤ◌, ◌≡◌}
 use Rattle.std.specs.Int.{w128}
 use Rattle.std.specs.Ordering.{is_ge}
 use Rattle.std.proofs.lemmas.Int.{ints, to_z-of_z, fits_signed_from_abs}
