@@ -8,7 +8,8 @@ use fold_keys::{FoldFault, FoldFile, Value, from_json};
 use std::alloc::{AllocError, Global};
 use std::test::Fail;
 
-const FRAMES: &str = "{\"vertices_coords\":[[0,0]],\"frame_title\":\"a\",\"file_title\":\"c\",\"file_frames\":[\
+const FRAMES: &str =
+    "{\"vertices_coords\":[[0,0]],\"frame_title\":\"a\",\"file_title\":\"c\",\"file_frames\":[\
     {\"frame_parent\":0,\"frame_inherit\":true,\"frame_title\":\"b\"},\
     {\"x:y\":7,\"frame_parent\":1,\"frame_inherit\":true}]}";
 
@@ -30,7 +31,9 @@ fn keys_of(alloc: Global, frame: &Effective) -> Result<String, AllocError> {
     let mut keys = String::new(alloc);
     for place in 0..9 {
         match frame.entry(place) {
-            Some((key, Value::Word(word))) => keys.push_str(format!(in alloc; "{key}={word};")?.as_str())?,
+            Some((key, Value::Word(word))) => keys.push_str(format!(in alloc;
+                "{key}={word};"
+            )?.as_str())?,
             Some((key, _)) => keys.push_str(format!(in alloc; "{key};")?.as_str())?,
             None => {}
         }
@@ -50,7 +53,11 @@ fn inherits(rt: HostRuntime) -> Result<(), Fail> {
         // Inheritance needs both of its keys.
         ("{\"frame_inherit\":true}", 0, ""),
         ("{\"frame_inherit\":false,\"frame_parent\":7}", 0, ""),
-        ("{\"frame_inherit\":true,\"frame_parent\":0}", 0, "parent loop 0"),
+        (
+            "{\"frame_inherit\":true,\"frame_parent\":0}",
+            0,
+            "parent loop 0",
+        ),
         (
             "{\"frame_inherit\":true,\"frame_parent\":1,\"file_frames\":[\
              {\"frame_inherit\":true,\"frame_parent\":2},{\"frame_inherit\":true,\"frame_parent\":1}]}",
@@ -85,7 +92,9 @@ fn finds_values(rt: HostRuntime) -> Result<(), Fail> {
     };
     assert_eq!(rt; frame.frame(), 2);
     assert_eq!(rt; frame.entries().len(), 3);
-    assert!(rt; matches!(frame.get(b"frame_title"), Some(Value::Word(word)) if word.as_str() == "b"));
+    assert!(rt;
+        matches!(frame.get(b"frame_title"), Some(Value::Word(word)) if word.as_str() == "b")
+    );
     assert!(rt; frame.get(b"file_title").is_none());
     Ok(())
 }
@@ -100,7 +109,10 @@ fn counts(rt: HostRuntime) -> Result<(), Fail> {
             "Some(1) Some(1) Some(0)",
         ),
         // Nothing is known of the faces, so their ids aren't checked.
-        ("{\"edges_faces\":[[7,null]],\"faceOrders\":[[8,9,1]]}", "None Some(1) None"),
+        (
+            "{\"edges_faces\":[[7,null]],\"faceOrders\":[[8,9,1]]}",
+            "None Some(1) None",
+        ),
         // A list of another length than the first of its prefix in the table, and not in the file.
         (
             "{\"edges_assignment\":[\"B\",\"M\"],\"edges_vertices\":[[0,1]]}",
@@ -125,7 +137,10 @@ fn counts(rt: HostRuntime) -> Result<(), Fail> {
             Err(_) => return Err("none".into()),
         };
         let shown = match frame.counts(alloc) {
-            Ok(counts) => format!(in alloc; "{:?} {:?} {:?}", counts.vertices, counts.edges, counts.faces)?,
+            Ok(counts) => format!(in alloc;
+                "{:?} {:?} {:?}",
+                counts.vertices, counts.edges, counts.faces
+            )?,
             Err(FoldFault::Shape(fault)) => format!(in alloc; "{fault}")?,
             Err(FoldFault::Memory(error)) => return Err(error.into()),
         };
