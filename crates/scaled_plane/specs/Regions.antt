@@ -55,6 +55,6 @@ module _ {A : Type 0} (K : OrderedRing A) (vertices : List (Point A)) (edges : L
   SeesPiece u v p = SeesFromLeft (point_at K vertices u) (point_at K vertices v)
       (middle K.ops (point_at K vertices u) (point_at K vertices v)) p
 
-  -- the directed piece has the region of q at its left, which is that of each point that sees it so
+  -- the directed piece has the region of q at its left: a point that sees it so is in that region
   abbrev pub HasAtLeft : ℕ → ℕ → Point A → Type 0
   HasAtLeft u v q = (p : Point A) × SeesPiece u v p × AreInOneRegion K vertices edges p q
