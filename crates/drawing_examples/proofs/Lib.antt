@@ -7,3 +7,4 @@ pub mod Drawings
 pub mod Following
 pub mod Flaws
 pub mod Walking
+pub mod Triangle

@@ -5,7 +5,8 @@
 ghost use Rattle.std.specs.Prelude.{pos, negsuc, [], ◌∷◌};
 ghost use Rattle.fold_base.specs.declared.letter.Letter.TheVariants.{Border, Mountain, Unassigned, Valley};
 ghost use Rattle.algebra.proofs.Integers.{integers};
-ghost use Rattle.scaled_plane.specs.Sheets.{HasFlaw};
+ghost use Rattle.scaled_plane.specs.Sheets.{HasFlaw, IsSheet};
+ghost use Rattle.regions.specs.Triangle.{corners, sides};
 ghost use Rattle.scaled_plane.specs.declared.sheet.SheetFlaw.TheVariants.{SameVertex, Loose, NotPlane, Parted, EmptySheet, FaceWrong, FaceMissing, NotConvex, BorderWrong, Pinched, Severed};
 ghost use Rattle.drawing_examples.specs.Examples.{AreCutInto, FollowAs, at, crease, edge, face, over};
 
@@ -130,4 +131,9 @@ pub fn sheet_flaws()
     ensures pinched { HasFlaw integers (at (pos 0) (pos 0) ∷ at (pos 1) (pos 0) ∷ at (pos 2) (pos 0) ∷ [])
         (edge 0 1 Border ∷ edge 1 2 Border ∷ []) [] (Pinched 1) }
     ensures severed { HasFlaw integers [] [] (face (0 ∷ 1 ∷ 2 ∷ []) ∷ face (2 ∷ 1 ∷ 3 ∷ []) ∷ []) (Severed 1) }
+{}
+
+/// A triangle with its one face is a sheet, so that what is asked of sheets can be met.
+pub fn triangle_is_a_sheet()
+    ensures { IsSheet integers corners sides (face (0 ∷ 1 ∷ 2 ∷ []) ∷ []) }
 {}
