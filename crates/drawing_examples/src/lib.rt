@@ -2,9 +2,10 @@
 //! drawings say of them.
 #![tactic(auto)]
 
-ghost use Rattle.std.specs.Prelude.{pos, negsuc, [], ◌∷◌};
+ghost use Rattle.std.specs.Prelude.{◌≡◌, pos, negsuc, [], ◌∷◌};
 ghost use Rattle.fold_base.specs.declared.letter.Letter.TheVariants.{Border, Mountain, Unassigned, Valley};
 ghost use Rattle.algebra.proofs.Integers.{integers};
+ghost use Rattle.scaled_plane.specs.Counts.{tests_for};
 ghost use Rattle.scaled_plane.specs.Sheets.{HasFlaw, IsSheet};
 ghost use Rattle.regions.specs.Triangle.{corners, sides};
 ghost use Rattle.scaled_plane.specs.declared.sheet.SheetFlaw.TheVariants.{SameVertex, Loose, NotPlane, Parted, EmptySheet, FaceWrong, FaceMissing, NotConvex, BorderWrong, Pinched, Severed};
@@ -73,6 +74,23 @@ pub fn small_drawings()
         (edge 0 1 Border ∷ edge 0 5 Border ∷ edge 1 2 Border ∷ edge 1 3 Mountain ∷ edge 2 7 Border ∷
         edge 3 4 Unassigned ∷ edge 4 6 Valley ∷ edge 5 6 Border ∷ edge 6 7 Border ∷ [])
         ((0, 2) ∷ (0, 5) ∷ (0, 2) ∷ (1, 4) ∷ (2, 7) ∷ (1, 4) ∷ (3, 6) ∷ (5, 7) ∷ (5, 7) ∷ []) }
+{}
+
+/// How many pairs of segments share an x. Of the diagonals of a square only its two upright borders don't.
+pub fn counted_pairs()
+    ensures single_point { tests_for integers (crease Mountain (at (pos 1) (pos 1)) (at (pos 1) (pos 1)) ∷
+        crease Mountain (at (pos 0) (pos 0)) (at (pos 2) (pos 2)) ∷ []) ≡ 0 }
+    ensures upright { tests_for integers (crease Mountain (at (pos 0) (pos 0)) (at (pos 0) (pos 1)) ∷
+        crease Mountain (at (pos 1) (pos 0)) (at (pos 1) (pos 1)) ∷ crease Mountain (at (pos 2) (pos 1)) (at (pos 2) (pos 0)) ∷ []) ≡ 0 }
+    ensures one_x { tests_for integers (crease Mountain (at (pos 0) (pos 0)) (at (pos 1) (pos 0)) ∷
+        crease Mountain (at (pos 2) (pos 5)) (at (pos 1) (pos 4)) ∷ []) ≡ 1 }
+    ensures diagonals { tests_for integers
+        (crease Border (at (pos 0) (pos 0)) (at (pos 1) (pos 0)) ∷
+        crease Border (at (pos 1) (pos 0)) (at (pos 1) (pos 1)) ∷
+        crease Border (at (pos 1) (pos 1)) (at (pos 0) (pos 1)) ∷
+        crease Border (at (pos 0) (pos 1)) (at (pos 0) (pos 0)) ∷
+        crease Mountain (at (pos 0) (pos 0)) (at (pos 1) (pos 1)) ∷
+        crease Valley (at (pos 0) (pos 1)) (at (pos 1) (pos 0)) ∷ []) ≡ 14 }
 {}
 
 /// Which directed piece comes after which: after the one from u to v, for each u, v, w of a list, the one from v to w. Each
