@@ -42,8 +42,16 @@ fn checksum(alloc: Global, operation: &str, rounds: u32) -> Result<i128, AllocEr
 fn over_rationals(alloc: Global, operation: &str, rounds: u32) -> Result<i128, AllocError> {
     let numbers = samples::rationals(alloc)?;
     Ok(match operation {
-        "add" => over_pairs(&numbers, rounds, |x, y| parts_of(x.add(y).map(|z| z.parts()))),
-        "mul" => over_pairs(&numbers, rounds, |x, y| parts_of(x.mul(y).map(|z| z.parts()))),
+        "add" => over_pairs(
+            &numbers,
+            rounds,
+            |x, y| parts_of(x.add(y).map(|z| z.parts())),
+        ),
+        "mul" => over_pairs(
+            &numbers,
+            rounds,
+            |x, y| parts_of(x.mul(y).map(|z| z.parts())),
+        ),
         _ => over_pairs(&numbers, rounds, |x, y| order_of(x.compare(y))),
     })
 }
@@ -57,7 +65,11 @@ fn over_decimals(alloc: Global, operation: &str, rounds: u32) -> Result<i128, Al
         "read_grid" => over(&values, rounds, |x| {
             parts_of(read_grid::<Rational>(1000, x).map(|y| y.parts()))
         }),
-        _ => over(&values, rounds, |x| parts_of(read_root_two(1, x).map(|y| y.parts()))),
+        _ => over(
+            &values,
+            rounds,
+            |x| parts_of(read_root_two(1, x).map(|y| y.parts())),
+        ),
     })
 }
 
