@@ -5,7 +5,7 @@
 mod samples;
 
 use exact_number::{Exact, Whole};
-use number_rules::{Unread, print9, read_exact, read_grid, read_root_two};
+use number_rules::{print9, read_exact, read_grid, read_root_two};
 use rational::Rational;
 use root_two::{Radicand, RootRing, RootTwo, Three, Two};
 use std::alloc::{AllocError, Global};
