@@ -1,0 +1,4 @@
+pub mod Found
+pub mod Spans
+pub mod Letters
+pub mod Covers

@@ -1,0 +1,153 @@
+//! Cuts the segments of a drawing that it makes itself, and prints how many vertices and pieces there are with a checksum,
+//! for a clock outside. `piece_timing grid 128` has 128 lines each way; `random`, `line`, `point` and `all` have so many
+//! segments at random, along one line, through one point, and all crossing in different points.
+#![tactic(auto)]
+
+ghost use Rattle.std.specs.Prelude.{◌≡◌, pos, ◌<◌, ◌≤◌, ◌++◌, length, Contains, IfSome, IfOk};
+ghost use Rattle.scaled_plane.specs.declared.point.Segment.{Segment as AnySegment};
+ghost use Rattle.scaled_plane.specs.Drawn.{IsScaledPoint, IsScaledSegment};
+
+use arrangement::{PieceFault, pieces};
+use exact_number::{MOST_SCALED, Whole};
+use fold_base::{Letter, List};
+use plane::Point;
+use rational::RationalRing;
+use scaled_plane::{Drawing, Segment};
+use segment_tests::Steps;
+use std::alloc::{AllocError, Global};
+use std::marker::Brand;
+use std::sync::ledger::Blank;
+use std::{env, io};
+
+/// No drawing has more segments.
+const MOST: u32 = 2048;
+
+/// Where a segment begins and ends.
+type Way = ((i128, i128), (i128, i128));
+
+/// Pseudo-random numbers.
+#[derive(Drop)]
+struct Dice {
+    state: u64,
+}
+
+impl Dice {
+    /// A number from 0 on and below a power of two.
+    fn roll(&mut self, bits: u32) -> i128
+        requires { bits < 32 }
+    {
+        self.state = self
+            .state
+            .wrapping_mul(6_364_136_223_846_793_005)
+            .wrapping_add(1_442_695_040_888_963_407);
+        let mask = (1u64 << bits) - 1;
+        ((self.state >> 33) & mask) as i128
+    }
+}
+
+fn one<W: Whole>() -> W
+    ensures { result ≡ W.numbers.int (pos 1) }
+{
+    match W::from_pair(1, 0) {
+        Some(one) => one,
+        None => unreachable!(),
+    }
+}
+
+fn scaled<W: Whole>(place: (i128, i128)) -> Option<Point<W>>
+    ensures { IfSome result (λ p. IsScaledPoint W.numbers p) }
+{
+    if place.0.unsigned_abs() > MOST_SCALED || place.1.unsigned_abs() > MOST_SCALED {
+        return None;
+    }
+    match W::from_pair(place.0, 0) {
+        Some(x) => match W::from_pair(place.1, 0) {
+            Some(y) => Some(Point { x, y, w: one() }),
+            None => None,
+        },
+        None => None,
+    }
+}
+
+fn segment<W: Whole>(way: Way) -> Option<Segment<W>>
+    ensures { IfSome result (λ s. IsScaledSegment W.numbers s) }
+{
+    match scaled(way.0) {
+        Some(from) => match scaled(way.1) {
+            Some(to) => Some(Segment {
+                from,
+                to,
+                letter: Letter::Mountain,
+            }),
+            None => None,
+        },
+        None => None,
+    }
+}
+
+/// Where the segment of a number lies in a drawing.
+fn way(drawing: &str, count: i128, i: i128, dice: &mut Dice) -> Way {
+    match drawing {
+        "grid" => {
+            let half = count / 2;
+            if i < half {
+                ((0, i), (half - 1, i))
+            } else {
+                ((i - half, 0), (i - half, half - 1))
+            }
+        }
+        "line" => ((i, 2 * i), (i + count, 2 * i + 2 * count)),
+        "point" => ((-4000, -i), (4000, i)),
+        "all" => ((0, i * i), (4000, -2 * i)),
+        _ => {
+            let (x, y) = (dice.roll(21), dice.roll(21));
+            ((x, y), (x + dice.roll(18) - 131_072, y + dice.roll(18) - 131_072))
+        }
+    }
+}
+
+fn drawn<W: Whole>(alloc: Global, drawing: &str, count: u32) -> Result<List<Segment<W>>, AllocError> {
+    let mut segments = List::new(alloc);
+    let mut dice = Dice { state: 1 };
+    for i in 0..count {
+        if let Some(segment) = segment(way(drawing, count as i128, i as i128, &mut dice)) {
+            segments.push(segment)?;
+        }
+    }
+    Ok(segments)
+}
+
+/// The vertices and pieces, and a checksum over them.
+fn checksum(drawing: &Drawing<RationalRing>) -> u64 {
+    let mut sum: u64 = 0;
+    for edge in drawing.edges.as_slice() {
+        sum = sum.wrapping_mul(31).wrapping_add(edge.from as u64);
+        sum = sum.wrapping_mul(31).wrapping_add(edge.to as u64);
+    }
+    sum
+}
+
+fn main(rt: HostRuntime) -> io::Result<()> {
+    let mut words = env::args(&rt)?.skip(1);
+    let drawing = words.next();
+    let count = match words.next() {
+        Some(word) => word.as_str().parse::<u32>().unwrap_or(0),
+        None => 0,
+    };
+    let count = count.min(MOST);
+    let mut steps: Steps<Brand> = Steps::new(Blank::new(1));
+    let segments = match drawing {
+        Some(word) => drawn(rt.alloc(), word.as_str(), count)?,
+        None => List::new(rt.alloc()),
+    };
+    match pieces(rt.alloc(), &segments, &mut steps) {
+        Ok(drawing) => {
+            let vertices = drawing.vertices.len();
+            let edges = drawing.edges.len();
+            let sum = checksum(&drawing);
+            println!(rt; "{vertices} vertices, {edges} pieces, {sum}")
+        }
+        Err(PieceFault::TooMany) => println!(rt; "too many"),
+        Err(PieceFault::Memory(_)) => println!(rt; "no memory"),
+    }
+}
