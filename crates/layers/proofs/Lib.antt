@@ -1,0 +1,16 @@
+pub mod Places
+pub mod Tournament
+pub mod Signs
+pub mod FoldedFacts
+pub mod Faces
+pub mod Cycles
+pub mod Seams
+pub mod Sides
+pub mod Together
+pub mod FaceWise
+pub mod Stacks
+pub mod Whole
+pub mod Choices
+pub mod Convex
+pub mod Known
+pub mod Orders
