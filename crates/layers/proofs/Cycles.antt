@@ -5,13 +5,13 @@ use Prim.Native.Nat.{ℕ}
 use Rattle.algebra.specs.OrderedRing.{OrderedRing}
 use Rattle.plane.specs.declared.point.Point.{Point}
 use Rattle.plane.specs.declared.point.Line.{Line}
-use Rattle.layers.specs.Sheet.{FoldedSheet}
 use Rattle.plane.specs.Lines.{LiesIn}
 use Rattle.layers.proofs.FoldedFacts.{FoldedFacts}
-use Rattle.layers.specs.Crossings.{CycleOccurs}
-use Rattle.layers.specs.Listing.{CycleListed}
 use Rattle.std.proofs.lemmas.List.Elements.{Contains-append_left as in_left, Contains-append_right as in_right, Contains-append_cases as in_either}
 use Rattle.layers.proofs.Faces.{borders, inside_lies, lies_inside, GenericPoint, generic_point}
+use Rattle.layers.specs.Sheets.{FoldedSheet}
+use Rattle.layers.specs.Crossings.{CycleOccurs}
+use Rattle.layers.specs.Listing.{CycleListed}
 
 module _ {A : Type 0} (K : OrderedRing A) where
   pub lies_in_both : (ms ns : List (Line A)) (p : Point A) → LiesIn K ms p → LiesIn K ns p → LiesIn K (ms ++ ns) p

@@ -15,11 +15,8 @@ use Rattle.plane.specs.declared.point.Point.{Point}
 use Rattle.plane.specs.Lines.{value, line, LiesIn}
 use Rattle.algebra.proofs.Solvers.{reads, ring, sign_of_multiple}
 use Rattle.plane.specs.declared.point.Line.{Line}
-use Rattle.layers.specs.Lines.{Piece, side, OnPiece}
 use Rattle.plane.specs.Points.{IsPoint}
-use Rattle.layers.specs.Sheet.{FoldedFace, FoldedSheet, Inside, HasPiece, pieces, inner_side}
 use Rattle.std.specs.Prelude.{Contains}
-use Rattle.layers.specs.Points.{IsGeneric}
 use Rattle.layers.proofs.FoldedFacts.{FoldedFacts}
 use Rattle.plane.proofs.Members.{in_cons, in_tail, in_nil}
 use Rattle.std.proofs.lemmas.List.Elements.{Contains-append_left as in_left, Contains-append_right as in_right, Contains-append_cases as in_either}
@@ -27,6 +24,9 @@ use Rattle.layers.proofs.Places.{is_head, at_place, stands_at}
 use Rattle.plane.proofs.Lines.{value_combination, value_multiple}
 use Rattle.plane.proofs.Signs.{zero_sign, positive_product}
 use Rattle.plane.proofs.Density.{Found, dense}
+use Rattle.layers.specs.Pieces.{Piece, pieces_round, side_of, IsOnPiece}
+use Rattle.layers.specs.Sheets.{FoldedFace, FoldedSheet, inner_side, IsInside, HasPiece}
+use Rattle.layers.specs.Points.{IsGeneric}
 
 pub inner_not_equal : (t : Bool) → ¬ (inner_side t ≡ Equal)
 inner_not_equal false e = cc
@@ -36,7 +36,7 @@ module _ {A : Type 0} (K : OrderedRing A) where
   abbrev pub line_of : Piece A → Line A
   line_of s = line K.ops s.from s.to
 
-  pub side_is_value : (s : Piece A) (p : Point A) → side K s p ≡ K.sign (value K.ops (line_of s) p)
+  pub side_is_value : (s : Piece A) (p : Point A) → side_of K s p ≡ K.sign (value K.ops (line_of s) p)
   side_is_value s p = refl
 
   -- ---- a face as open half-planes
@@ -46,11 +46,11 @@ module _ {A : Type 0} (K : OrderedRing A) where
   inward_line false s = line K.ops s.from s.to
   inward_line true s = line K.ops s.to s.from
 
-  pub inward_sign : (t : Bool) (s : Piece A) (p : Point A) → side K s p ≡ inner_side t → K.sign (value K.ops (inward_line t s) p) ≡ Greater
+  pub inward_sign : (t : Bool) (s : Piece A) (p : Point A) → side_of K s p ≡ inner_side t → K.sign (value K.ops (inward_line t s) p) ≡ Greater
   inward_sign false s p h = sym (side_is_value s p) ∙ h
   inward_sign true s p h = side_swapped K s.from s.to p ∙ ap ordering_reverse h
 
-  pub inward_side : (t : Bool) (s : Piece A) (p : Point A) → K.sign (value K.ops (inward_line t s) p) ≡ Greater → side K s p ≡ inner_side t
+  pub inward_side : (t : Bool) (s : Piece A) (p : Point A) → K.sign (value K.ops (inward_line t s) p) ≡ Greater → side_of K s p ≡ inner_side t
   inward_side false s p h = side_is_value s p ∙ h
   inward_side true s p h = side_swapped K s.to s.from p ∙ ap ordering_reverse h
 
@@ -77,30 +77,30 @@ module _ {A : Type 0} (K : OrderedRing A) where
   in_lines t (r ∷ ss) (suc k) s h = in_tail (inward_line t r) (inward_lines t ss) (inward_line t s) (in_lines t ss k s h)
 
   abbrev pub borders : FoldedFace A → List (Line A)
-  borders face = inward_lines face.turned (pieces face.corners)
+  borders face = inward_lines face.turned (pieces_round face.corners)
 
   -- the pieces of all faces
   abbrev pub all_pieces : List (FoldedFace A) → List (Piece A)
   all_pieces [] = []
-  all_pieces (f ∷ fs) = pieces f.corners ++ all_pieces fs
+  all_pieces (f ∷ fs) = pieces_round f.corners ++ all_pieces fs
 
-  in_all_pieces : (fs : List (FoldedFace A)) (f : ℕ) (face : FoldedFace A) (k : ℕ) (s : Piece A) → slice_get fs f ≡ Some face → slice_get (pieces face.corners) k ≡ Some s → Contains (all_pieces fs) s
+  in_all_pieces : (fs : List (FoldedFace A)) (f : ℕ) (face : FoldedFace A) (k : ℕ) (s : Piece A) → slice_get fs f ≡ Some face → slice_get (pieces_round face.corners) k ≡ Some s → Contains (all_pieces fs) s
   in_all_pieces [] f face k s e h = cc
   in_all_pieces (x ∷ fs) zero face k s e h =
-      let same : x ≡ face = cc in in_left (pieces x.corners) (all_pieces fs) s (subst (λ (y : FoldedFace A). Contains (pieces y.corners) s) (sym same) (at_place (pieces face.corners) k s h))
-  in_all_pieces (x ∷ fs) (suc f) face k s e h = in_right (pieces x.corners) (all_pieces fs) s (in_all_pieces fs f face k s e h)
+      let same : x ≡ face = cc in in_left (pieces_round x.corners) (all_pieces fs) s (subst (λ (y : FoldedFace A). Contains (pieces_round y.corners) s) (sym same) (at_place (pieces_round face.corners) k s h))
+  in_all_pieces (x ∷ fs) (suc f) face k s e h = in_right (pieces_round x.corners) (all_pieces fs) s (in_all_pieces fs f face k s e h)
 
   pub record OfFace (fs : List (FoldedFace A)) (s : Piece A) : Type 0 where
     pub place : ℕ
     pub face : FoldedFace A
     pub corner : ℕ
     pub is_face : slice_get fs place ≡ Some face
-    pub is_piece : slice_get (pieces face.corners) corner ≡ Some s
+    pub is_piece : slice_get (pieces_round face.corners) corner ≡ Some s
 
   of_face : (fs : List (FoldedFace A)) (s : Piece A) → Contains (all_pieces fs) s → OfFace fs s
   of_face [] s h = absurd (in_nil s h)
-  of_face (x ∷ fs) s h = elim (in_either (pieces x.corners) (all_pieces fs) s h) [
-    | inl i ↦ record { place = zero; face = x; corner = i.0; is_face = refl; is_piece = stands_at (pieces x.corners) s i }
+  of_face (x ∷ fs) s h = elim (in_either (pieces_round x.corners) (all_pieces fs) s h) [
+    | inl i ↦ record { place = zero; face = x; corner = i.0; is_face = refl; is_piece = stands_at (pieces_round x.corners) s i }
     | inr j ↦ let r = of_face fs s j in record { place = suc r.place; face = r.face; corner = r.corner; is_face = r.is_face; is_piece = r.is_piece }
   ]
 
@@ -113,7 +113,7 @@ module _ {A : Type 0} (K : OrderedRing A) where
   times_zero t a h = ap (K.mul t) (K.sign_zero a h) ∙ ring K (t ∷ []) (search reads depth 20) (search reads depth 20) tt
 
   -- a line through both ends of a piece holds each of its points
-  pub zero_on_piece : (l : Line A) (s : Piece A) (p : Point A) → OnPiece K s p → K.sign (value K.ops l s.from) ≡ Equal → K.sign (value K.ops l s.to) ≡ Equal → K.sign (value K.ops l p) ≡ Equal
+  pub zero_on_piece : (l : Line A) (s : Piece A) (p : Point A) → IsOnPiece K s p → K.sign (value K.ops l s.from) ≡ Equal → K.sign (value K.ops l s.to) ≡ Equal → K.sign (value K.ops l p) ≡ Equal
   zero_on_piece l s p h f t =
       sym (sign_of_multiple K h.factor (value K.ops l p) h.factor_positive)
       ∙ ap K.sign (sym (value_multiple K l h.factor p) ∙ ap (value K.ops l) h.is ∙ value_combination K l h.from_share h.to_share s.from s.to
@@ -127,20 +127,20 @@ module _ {A : Type 0} (K : OrderedRing A) where
   pub to_on_own : (s : Piece A) → K.sign (value K.ops (line_of s) s.to) ≡ Equal
   to_on_own s = zero_sign K (value K.ops (line_of s) s.to) (ring K (s.from.x ∷ s.from.y ∷ s.from.w ∷ s.to.x ∷ s.to.y ∷ s.to.w ∷ []) (search reads depth 40 fits 50000) (search reads depth 40 fits 50000) tt)
 
-  pub on_own_line : (s : Piece A) (p : Point A) → OnPiece K s p → K.sign (value K.ops (line_of s) p) ≡ Equal
+  pub on_own_line : (s : Piece A) (p : Point A) → IsOnPiece K s p → K.sign (value K.ops (line_of s) p) ≡ Equal
   on_own_line s p h = zero_on_piece (line_of s) s p h (from_on_own s) (to_on_own s)
 
   module _ (sheet : FoldedSheet A) where
-    pub inside_lies : {f : ℕ} {p : Point A} (h : Inside K sheet f p) → LiesIn K (borders h.face) p
+    pub inside_lies : {f : ℕ} {p : Point A} (h : IsInside K sheet f p) → LiesIn K (borders h.face) p
     inside_lies {f} {p} h m i =
-        let r = from_piece h.face.turned (pieces h.face.corners) m i in
-        subst (λ (n : Line A). K.sign (value K.ops n p) ≡ Greater) r.is_line (inward_sign h.face.turned r.piece p (h.within r.place r.piece r.is_piece))
+        let r = from_piece h.face.turned (pieces_round h.face.corners) m i in
+        subst (λ (n : Line A). K.sign (value K.ops n p) ≡ Greater) r.is_line (inward_sign h.face.turned r.piece p (h.within r.piece (at_place (pieces_round h.face.corners) r.place r.piece r.is_piece)))
 
-    pub lies_inside : (f : ℕ) (face : FoldedFace A) (p : Point A) → slice_get sheet.faces f ≡ Some face → LiesIn K (borders face) p → Inside K sheet f p
+    pub lies_inside : (f : ℕ) (face : FoldedFace A) (p : Point A) → slice_get sheet.faces f ≡ Some face → LiesIn K (borders face) p → IsInside K sheet f p
     lies_inside f face p e h = record {
       face = face;
       is = e;
-      within = λ k s i. inward_side face.turned s p (h (inward_line face.turned s) (in_lines face.turned (pieces face.corners) k s i));
+      within = λ s i. inward_side face.turned s p (h (inward_line face.turned s) (in_lines face.turned (pieces_round face.corners) i.0 s (stands_at (pieces_round face.corners) s i)));
     }
 
     pub piece_in_all : {f k : ℕ} {s : Piece A} → HasPiece K sheet f k s → Contains (lines_of (all_pieces sheet.faces)) (line_of s)
@@ -159,8 +159,8 @@ module _ {A : Type 0} (K : OrderedRing A) where
           go : Rattle.layers.proofs.FoldedFacts.HasInside K sheet f → OffLine (line_of s)
           go i =
               let same : i.inside.face ≡ h.face = let a = i.inside.is in let b = h.is_face in cc in
-              let piece : slice_get (pieces i.inside.face.corners) k ≡ Some s = subst (λ (x : FoldedFace A). slice_get (pieces x.corners) k ≡ Some s) (sym same) h.is_piece in
-              record { point = i.point; is_point = i.is_point; off = λ z. inner_not_equal i.inside.face.turned (sym (i.inside.within k s piece) ∙ side_is_value s i.point ∙ z) }
+              let piece : slice_get (pieces_round i.inside.face.corners) k ≡ Some s = subst (λ (x : FoldedFace A). slice_get (pieces_round x.corners) k ≡ Some s) (sym same) h.is_piece in
+              record { point = i.point; is_point = i.is_point; off = λ z. inner_not_equal i.inside.face.turned (sym (i.inside.within s (at_place (pieces_round i.inside.face.corners) k s piece)) ∙ side_is_value s i.point ∙ z) }
 
       pub line_off : (l : Line A) → Contains (lines_of (all_pieces sheet.faces)) l → OffLine l
       line_off l i =

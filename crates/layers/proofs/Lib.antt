@@ -1,4 +1,5 @@
 pub mod Places
+pub mod Letters
 pub mod Tournament
 pub mod Signs
 pub mod FoldedFacts

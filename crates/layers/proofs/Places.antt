@@ -8,7 +8,7 @@ use Rattle.std.specs.List.{slice_get}
 use Rattle.std.proofs.lemmas.Option.{slice_get_within, get_or_from_slice_get, slice_get_read}
 use Rattle.plane.proofs.Members.{in_head, in_tail}
 use Rattle.algebra.specs.OrderedRing.{OrderedRing}
-use Rattle.layers.specs.Sheet.{FoldedSheet, FaceSide, HasFaces}
+use Rattle.layers.specs.Sheets.{FaceSide, FoldedSheet, HasFaces}
 
 pub is_head : {X : Type 0} (x : X) (xs : List X) (y : X) → x ≡ y → Contains (x ∷ xs) y
 is_head x xs y e = subst (Contains (x ∷ xs)) e (in_head x xs)

@@ -15,21 +15,21 @@ use Rattle.plane.specs.declared.point.Point.{Point}
 use Rattle.algebra.proofs.RingLaws.{equal_of_difference}
 use Rattle.algebra.proofs.Solvers.{reads, ring, ring_from, multiple, no_equation, sign_from, sign_of_multiple, known, no_sign, given, sum, square, unknown, variable, positive, negative}
 use Rattle.plane.specs.declared.point.Line.{Line}
-use Rattle.layers.specs.Lines.{Piece, OnPiece, InMiddle}
 use Rattle.plane.specs.Lines.{value, LiesIn}
 use Rattle.plane.specs.Points.{combination, IsPoint, IsSamePoint}
-use Rattle.layers.specs.Sheet.{FoldedFace, FoldedSheet, HasPiece, IsImage}
 use Rattle.std.specs.Prelude.{Contains}
-use Rattle.layers.specs.Points.{IsSeam}
 use Rattle.layers.proofs.FoldedFacts.{FoldedFacts}
 use Rattle.plane.proofs.Members.{in_cons, in_tail, in_nil}
-use Rattle.std.proofs.lemmas.List.Elements.{Contains-append_left as in_left, Contains-append_right as in_right, Contains-append_cases as in_either}
-use Rattle.layers.proofs.Places.{is_head, at_place, stands_at}
+use Rattle.std.proofs.lemmas.List.Elements.{Contains-append_left as in_left, Contains-append_right as in_right}
+use Rattle.layers.proofs.Places.{is_head, stands_at}
 use Rattle.plane.proofs.Signs.{zero_sign}
 use Rattle.plane.proofs.Density.{LeadsOff, Found, dense}
 use Rattle.layers.proofs.Faces.{line_of, side_is_value, all_pieces, lines_of, piece_in_all, on_own_line, from_on_own, to_on_own, inside_off}
 use Rattle.plane.proofs.Lines.{flat_of_same, holds_too}
 use Rattle.plane.proofs.OnSegments.{between_is_on, between_turned, between_towards, on_between, point_between}
+use Rattle.layers.specs.Pieces.{Piece, IsOnPiece, IsInMiddle}
+use Rattle.layers.specs.Sheets.{FoldedFace, FoldedSheet, HasPiece, IsImage}
+use Rattle.layers.specs.Points.{IsSeam}
 
 module _ {A : Type 0} (K : OrderedRing A) where
   squares_zero : (a b : A) → K.sign (K.add (K.mul a a) (K.mul b b)) ≡ Equal → K.sign a ≡ Equal
@@ -99,7 +99,7 @@ module _ {A : Type 0} (K : OrderedRing A) where
 
   module _ (p q : Point A) where
     abbrev pub IsBetween : Point A → Type 0
-    IsBetween r = InMiddle K (record { from = p; to = q }) r
+    IsBetween r = IsInMiddle K (record { from = p; to = q }) r
 
     abbrev pub IsEnd : Point A → Type 0
     IsEnd v = (v ≡ p) ⊎ (v ≡ q)
@@ -125,16 +125,16 @@ module _ {A : Type 0} (K : OrderedRing A) where
     pub record SeamPoint (line : Piece A) (p q : Point A) (ms : List (Line A)) : Type 0 where
       pub point : Point A
       pub is_point : IsPoint K point
-      pub between : InMiddle K (record { from = p; to = q }) point
+      pub between : IsInMiddle K (record { from = p; to = q }) point
       pub lies : LiesIn K ms point
-      pub on_line : OnPiece K line point
+      pub on_line : IsOnPiece K line point
       pub is_seam : IsSeam K sheet line point
       -- the folded edges through it hold p and q as well
-      pub flat : (e f : ℕ) (s : Piece A) → IsImage K sheet e f s → OnPiece K s point → IsFlat p q (line_of K s)
+      pub flat : (e f : ℕ) (s : Piece A) → IsImage K sheet e f s → IsOnPiece K s point → IsFlat p q (line_of K s)
 
     -- on the stretch from p to q of the folded edge e
-    pub seam_point : (e f : ℕ) (line : Piece A) → IsImage K sheet e f line → IsPoint K line.from → (p q : Point A) → IsPoint K p → IsPoint K q → OnPiece K line p → OnPiece K line q → ¬ IsSamePoint K p q
-        → (ms : List (Line A)) (r : Point A) → InMiddle K (record { from = p; to = q }) r → LiesIn K ms r → SeamPoint line p q ms
+    pub seam_point : (e f : ℕ) (line : Piece A) → IsImage K sheet e f line → IsPoint K line.from → (p q : Point A) → IsPoint K p → IsPoint K q → IsOnPiece K line p → IsOnPiece K line q → ¬ IsSamePoint K p q
+        → (ms : List (Line A)) (r : Point A) → IsInMiddle K (record { from = p; to = q }) r → LiesIn K ms r → SeamPoint line p q ms
     seam_point e f line image from_point p q ip iq hp hq n ms r hr lr =
         of (dense K (IsBetween p q) (IsEnd p q) (stay p q) (IsFlat p q) (lines_of K (all_pieces K sheet.faces) ++ perpendiculars p q (all_corners sheet.faces)) ms r hr lr (λ l i. leads_or_flat p q l))
       where
@@ -159,24 +159,24 @@ module _ {A : Type 0} (K : OrderedRing A) where
           flat = λ d g s i o. flat d g s i o;
         }
           where
-            on : OnPiece K line d.point
+            on : IsOnPiece K line d.point
             on = on_between K line.from line.to p q d.point hp hq (between_is_on K d.good)
 
-            flat : (c g : ℕ) (s : Piece A) → IsImage K sheet c g s → OnPiece K s d.point → IsFlat p q (line_of K s)
+            flat : (c g : ℕ) (s : Piece A) → IsImage K sheet c g s → IsOnPiece K s d.point → IsFlat p q (line_of K s)
             flat c g s i o =
                 elim (d.off (line_of K s) (in_left (lines_of K (all_pieces K sheet.faces)) (perpendiculars p q (all_corners sheet.faces)) (line_of K s) (piece_in_all K sheet i.of_face))) [
                   | inl k ↦ absurd (k (on_own_line K s d.point o))
                   | inr h ↦ h
                 ]
 
-            off : (g : ℕ) (face : FoldedFace A) (v : Point A) → slice_get sheet.faces g ≡ Some face → Contains face.corners v → ¬ IsSamePoint K d.point v
-            off g face v is i same =
-                elim (d.off (perpendicular K.ops p q v) (in_right (lines_of K (all_pieces K sheet.faces)) (perpendiculars p q (all_corners sheet.faces)) (perpendicular K.ops p q v) (in_perpendiculars p q (all_corners sheet.faces) v (in_all_corners sheet.faces g face v is i)))) [
+            off : (face : FoldedFace A) (v : Point A) → Contains sheet.faces face → Contains face.corners v → ¬ IsSamePoint K d.point v
+            off face v j i same =
+                elim (d.off (perpendicular K.ops p q v) (in_right (lines_of K (all_pieces K sheet.faces)) (perpendiculars p q (all_corners sheet.faces)) (perpendicular K.ops p q v) (in_perpendiculars p q (all_corners sheet.faces) v (in_all_corners sheet.faces j.0 face v (stands_at sheet.faces face j) i)))) [
                   | inl k ↦ k (zero_sign K (value K.ops (perpendicular K.ops p q v) d.point) (perpendicular_here (x_from K.ops p q) (y_from K.ops p q) d.point v same))
-                  | inr h ↦ perpendicular_not_flat p q v (folded.corner_is_point g face v is i) n h.0 h.1
+                  | inr h ↦ perpendicular_not_flat p q v (folded.corner_is_point j.0 face v (stands_at sheet.faces face j) i) n h.0 h.1
                 ]
 
-            hold : (s : Piece A) (g : ℕ) {c : ℕ} (i : IsImage K sheet c g s) (o : OnPiece K s d.point) (x : Point A) → K.sign (value K.ops (line_of K s) x) ≡ Equal → K.sign (value K.ops (line_of K line) x) ≡ Equal
+            hold : (s : Piece A) (g : ℕ) {c : ℕ} (i : IsImage K sheet c g s) (o : IsOnPiece K s d.point) (x : Point A) → K.sign (value K.ops (line_of K s) x) ≡ Equal → K.sign (value K.ops (line_of K line) x) ≡ Equal
             hold s g {c} i o x z =
                 let h = flat c g s i o in
                 let w = inside_off K sheet folded g i.corner s i.of_face in

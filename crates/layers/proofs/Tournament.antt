@@ -1,5 +1,5 @@
 -- A list of different things, of which one of each two is above the other, without a cycle of three, can be listed so that each is above each later one.
-use mathlib.Core.Path.{◌≡◌, refl, sym, ap, subst}
+use mathlib.Core.Path.{◌≡◌, refl, sym, subst}
 use mathlib.Core.List.{List, [], ◌∷◌}
 use mathlib.Core.Logic.{◌⊎◌, inl, inr, ◌↔◌}
 use Prim.Native.Nat.{ℕ, zero, suc, ◌<◌}
@@ -8,9 +8,9 @@ use Rattle.std.proofs.lemmas.Bool.{cases_order}
 use Rattle.std.specs.Prelude.{Some}
 use Rattle.std.specs.List.{slice_get}
 use Rattle.std.specs.Prelude.{Contains}
-use Rattle.layers.specs.Points.{Descending}
 use Rattle.plane.proofs.Members.{in_cons, in_head, in_tail, in_nil}
 use Rattle.layers.proofs.Places.{is_head, at_place, stands_at}
+use Rattle.layers.specs.Orders.{Descending}
 
 -- different things, by recursion
 abbrev pub Distinct : {X : Type 0} → List X → Type 0

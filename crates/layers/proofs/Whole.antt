@@ -13,23 +13,31 @@ use Rattle.std.specs.declared.cmp.Ordering.TheVariants.{Less, Equal, Greater}
 use Rattle.std.specs.Ordering.{ordering_reverse}
 use Rattle.algebra.specs.OrderedRing.{OrderedRing}
 use Rattle.plane.specs.declared.point.Point.{Point}
-use Rattle.layers.specs.Lines.{Piece, side, OnPiece, InMiddle, IsAlong}
 use Rattle.plane.specs.Points.{IsPoint}
-use Rattle.layers.specs.Sheet.{AnyLetter, Border, Mountain, Valley, Flat, Unassigned, Join, Cut, IsCrease, IsJoin, FoldedFace, FoldedEdge, FaceSide, FoldedSheet, Inside, HasPiece, HasFaces, Overlap, GoesThrough, pieces, inner_side}
 use Rattle.std.specs.Prelude.{Contains}
-use Rattle.layers.specs.Points.{Strand, Face, Edge, NoClash, RanksOverlaps, LiesOn, IsGeneric, IsSeam, IsStrandEdge, IsAcross, IsOrderly, OnNormalSide, LetterFits, IsClear}
-use Rattle.layers.specs.Crossings.{Crossing, Cycle, Through, Creases, Joined, Letter, Occurs, IsLayered}
-use Rattle.layers.specs.Listing.{IsListed}
-use Rattle.layers.specs.Folded.{Meet, reversed, EdgeThere, IsAtSide}
 use Rattle.layers.proofs.FoldedFacts.{FoldedFacts, HasInside}
 use Rattle.layers.proofs.Signs.{reverse_twice, flipped_equal}
 use Rattle.layers.proofs.Faces.{side_is_value, inner_not_equal, on_own_line}
 use Rattle.plane.proofs.OnSegments.{between_is_on, on_turned, between_turned}
-use Rattle.layers.proofs.Tournament.{Listed, listed, descending_of_chain, no_cycle}
-use Rattle.layers.proofs.Places.{first_in, second_in}
-use Rattle.layers.proofs.Stacks.{Stack, the_stack}
+use Rattle.layers.proofs.Places.{at_place, first_in, second_in}
+use Rattle.layers.proofs.Stacks.{ordered_stack, no_ring}
 use Rattle.layers.proofs.Sides.{Relined, relined, own_side, ImageOf, by_first, by_second, image_of, seam_in_middle, line_of_seam, overlap_at_side, swapped}
 use Rattle.layers.proofs.FaceWise.{SeamOf, seam_of, occurs, is_listed}
+use Rattle.fold_base.specs.declared.letter.Letter.{Letter as AnyLetter}
+use Rattle.fold_base.specs.declared.letter.Letter.TheVariants.{Border, Mountain, Valley, Flat, Unassigned, Join, Cut}
+use Rattle.layers.specs.declared.crossing.Strand.{Strand}
+use Rattle.layers.specs.declared.crossing.Strand.TheVariants.{Face, Edge}
+use Rattle.layers.specs.declared.crossing.Crossing.{Crossing}
+use Rattle.layers.specs.declared.crossing.Crossing.TheVariants.{Cycle, Through, Creases, Joined, Letter}
+use Rattle.layers.specs.Pieces.{Piece, reversed, pieces_round, side_of, IsOnPiece, IsInMiddle, IsAlong}
+use Rattle.layers.specs.Sheets.{IsCrease, FoldedFace, FaceSide, FoldedEdge, FoldedSheet, inner_side, IsInside, HasPiece, HasFaces, GoesThrough}
+use Rattle.layers.specs.Orders.{NoClash, RanksOverlaps}
+use Rattle.layers.specs.Points.{IsGeneric, IsSeam, LiesOn, BeginsAt, IsAtSide, IsEdgeThere, IsAcross, IsOrderly, IsClear, IsOnNormalSide, LetterFits, IsLayered}
+use Rattle.layers.specs.Crossings.{Occurs}
+use Rattle.layers.specs.Listing.{IsListed}
+use Rattle.layers.specs.Folded.{MeetThere}
+use Rattle.layers.proofs.Letters.{crease_or_fits}
+use Rattle.layers.specs.Sheets.{IsImage}
 
 not_own_reverse : (o : Ordering) → o ≡ ordering_reverse o → o ≡ Equal
 not_own_reverse Less e = cc
@@ -49,32 +57,32 @@ module _ {A : Type 0} (K : OrderedRing A) (sheet : FoldedSheet A) (folded : Fold
   along_reversed l s a = record { from_on = a.to_on; to_on = a.from_on }
 
   record MiddleOf (line s : Piece A) (p : Point A) : Type 0 where
-    on : OnPiece K s p
+    on : IsOnPiece K s p
     along : IsAlong K line s
 
-  meets_in : {line : Piece A} {p : Point A} → IsSeam K sheet line p → {e f g : ℕ} (h : HasFaces K sheet e f g) (m : Meet K sheet h) → GoesThrough K sheet e p → MiddleOf line m.piece p
+  meets_in : {line : Piece A} {p : Point A} → IsSeam K sheet line p → {e f g : ℕ} (h : HasFaces K sheet e f g) (m : MeetThere K sheet h) → GoesThrough K sheet e p → MiddleOf line m.piece p
   meets_in {line} {p} seam {e} {f} {g} h m t = go (image_of K sheet h m t.face t.piece t.image)
     where
       a : IsAlong K line t.piece
       a = seam.along e t.face t.piece t.image t.on
 
       go : ImageOf K sheet h m t.face t.piece → MiddleOf line m.piece p
-      go (by_first i j) = record { on = subst (λ s. OnPiece K s p) j t.on; along = subst (IsAlong K line) j a }
-      go (by_second i j) = record { on = on_turned K (subst (λ s. OnPiece K s p) j t.on); along = along_reversed line m.piece (subst (IsAlong K line) j a) }
+      go (by_first i j) = record { on = subst (λ s. IsOnPiece K s p) j t.on; along = subst (IsAlong K line) j a }
+      go (by_second i j) = record { on = on_turned K (subst (λ s. IsOnPiece K s p) j t.on); along = along_reversed line m.piece (subst (IsAlong K line) j a) }
 
   record BothThere (line : Piece A) (p : Point A) (s t : Ordering) (f g c d : ℕ) : Type 0 where
-    first_there : EdgeThere K sheet line p s f
-    second_there : EdgeThere K sheet line p t g
+    first_there : BeginsAt K sheet line p s f
+    second_there : BeginsAt K sheet line p t g
     first_corner : first_there.corner ≡ c
     second_corner : second_there.corner ≡ d
 
-  both_there : {Lettered : AnyLetter → Type 0} {line : Piece A} {p : Point A} {s t : Ordering} {e f g : ℕ} → IsSeam K sheet line p → (h : IsStrandEdge K sheet Lettered line p s t e f g) → Meet K sheet h.faces
+  both_there : {Lettered : AnyLetter → Type 0} {line : Piece A} {p : Point A} {s t : Ordering} {e f g : ℕ} → IsSeam K sheet line p → (h : IsEdgeThere K sheet Lettered line p s t e f g) → MeetThere K sheet h.faces
       → BothThere line p s t f g h.faces.first h.faces.second
   both_there {Lettered} {line} {p} {s} {t} {e} {f} {g} seam h m = of (meets_in seam h.faces m h.through)
     where
       of : MiddleOf line m.piece p → BothThere line p s t f g h.faces.first h.faces.second
       of o =
-          let mid : InMiddle K m.piece p = seam_in_middle K sheet folded seam m.in_first o.on in
+          let mid : IsInMiddle K m.piece p = seam_in_middle K sheet folded seam m.in_first o.on in
           record {
             first_there = record { corner = h.faces.first; piece = m.piece; of_face = m.in_first; middle = mid; along = o.along; lies = h.first_side };
             second_there = record {
@@ -89,24 +97,24 @@ module _ {A : Type 0} (K : OrderedRing A) (sheet : FoldedSheet A) (folded : Fold
             second_corner = refl;
           }
 
-  there : {Lettered : AnyLetter → Type 0} {line : Piece A} {p : Point A} {s t : Ordering} {e f g : ℕ} → IsSeam K sheet line p → (h : IsStrandEdge K sheet Lettered line p s t e f g) → Meet K sheet h.faces → EdgeThere K sheet line p s f
+  there : {Lettered : AnyLetter → Type 0} {line : Piece A} {p : Point A} {s t : Ordering} {e f g : ℕ} → IsSeam K sheet line p → (h : IsEdgeThere K sheet Lettered line p s t e f g) → MeetThere K sheet h.faces → BeginsAt K sheet line p s f
   there seam h m = (both_there seam h m).first_there
 
   -- no face lies on the line itself
-  side_not_equal : {line : Piece A} {p : Point A} {o : Ordering} {f : ℕ} → IsSeam K sheet line p → EdgeThere K sheet line p o f → ¬ (o ≡ Equal)
+  side_not_equal : {line : Piece A} {p : Point A} {o : Ordering} {f : ℕ} → IsSeam K sheet line p → BeginsAt K sheet line p o f → ¬ (o ≡ Equal)
   side_not_equal {line} {p} {o} {f} seam e z = of (folded.has_inside f e.of_face.face e.of_face.is_face)
     where
       of : HasInside K sheet f → ⊥
       of v =
-          let own : side K e.piece v.point ≡ inner_side e.of_face.face.turned = own_side K sheet e.of_face v.point v.is_point v.inside in
-          let off : ¬ (side K e.piece v.point ≡ Equal) = λ y. inner_not_equal e.of_face.face.turned (sym own ∙ y) in
+          let own : side_of K e.piece v.point ≡ inner_side e.of_face.face.turned = own_side K sheet e.of_face v.point v.is_point v.inside in
+          let off : ¬ (side_of K e.piece v.point ≡ Equal) = λ y. inner_not_equal e.of_face.face.turned (sym own ∙ y) in
           let r : Relined K line e.piece = relined K line e.piece v.point e.along seam.is_line off in
-          off (flipped_equal r.flip (side K e.piece v.point) (sym (r.is v.point) ∙ e.lies v.point v.is_point v.inside ∙ z))
+          off (flipped_equal r.flip (side_of K e.piece v.point) (sym (r.is v.point) ∙ e.lies v.point v.is_point v.inside ∙ z))
 
   -- a point on the border of a face is not inside of it
-  not_inside : {line : Piece A} {p : Point A} {o : Ordering} {f : ℕ} → EdgeThere K sheet line p o f → ¬ Inside K sheet f p
+  not_inside : {line : Piece A} {p : Point A} {o : Ordering} {f : ℕ} → BeginsAt K sheet line p o f → ¬ IsInside K sheet f p
   not_inside {line} {p} {o} {f} e i =
-      inner_not_equal i.face.turned (sym (i.within e.corner e.piece (subst (λ (x : FoldedFace A). slice_get (pieces x.corners) e.corner ≡ Some e.piece) same e.of_face.is_piece)) ∙ side_is_value K e.piece p ∙ on_own_line K e.piece p (between_is_on K e.middle))
+      inner_not_equal i.face.turned (sym (i.within e.piece (at_place (pieces_round i.face.corners) e.corner e.piece (subst (λ (x : FoldedFace A). slice_get (pieces_round x.corners) e.corner ≡ Some e.piece) same e.of_face.is_piece))) ∙ side_is_value K e.piece p ∙ on_own_line K e.piece p (between_is_on K e.middle))
     where
       same : e.of_face.face ≡ i.face
       same = let a = i.is in let b = e.of_face.is_face in cc
@@ -118,10 +126,8 @@ module _ {A : Type 0} (K : OrderedRing A) (sheet : FoldedSheet A) (folded : Fold
     -- ---- where all is in order there is no crossing
 
     pub no_crossing : IsLayered K sheet above → (c : Crossing) → ¬ Occurs K sheet above c
-    no_crossing l (Cycle f g h) c = of (l.orderly c.point c.is_point c.is_generic)
-      where
-        of : IsOrderly K sheet above c.point → ⊥
-        of o = no_cycle above one_way o.layers o.descending f g h ((o.are_stack f).1 c.in_first) ((o.are_stack g).1 c.in_second) ((o.are_stack h).1 c.in_third) c.around.0 c.around.1 c.around.2
+    no_crossing l (Cycle f g h) c =
+        no_ring K sheet above one_way c.point (l.orderly c.point c.is_point c.is_generic) f g h c.in_first c.in_second c.in_third c.around.0 c.around.1 c.around.2
     no_crossing l (Through e strand) c = let clear = l.clear c.line c.point c.is_seam in clear.no_face_in_arc c.arc_side e c.first c.second strand c.near c.far c.is_arc c.is_across c.is_between
     no_crossing l (Creases e d) c =
         let clear = l.clear c.line c.point c.is_seam in
@@ -129,16 +135,16 @@ module _ {A : Type 0} (K : OrderedRing A) (sheet : FoldedSheet A) (folded : Fold
     no_crossing l (Joined e strand) c =
         let clear = l.clear c.line c.point c.is_seam in
         one_way c.other_second c.second c.changes.1 (clear.no_strands_cross c.upper_side (Edge e) strand c.first c.second c.other_first c.other_second c.is_across c.is_other_across c.changes.0)
-    no_crossing l (Letter e) c = c.misfit (l.letters e c.first c.second c.faces c.is_crease)
+    no_crossing l (Letter e) c = c.misfit (l.letters e c.first c.second c.faces)
 
     -- ---- and where there is no crossing all is in order
 
     module _ (ranks : RanksOverlaps K sheet above) (none : (c : Crossing) → ¬ Occurs K sheet above c) where
-      no_three : (p : Point A) → IsPoint K p → IsGeneric K sheet p → (f g h : ℕ) → f < g → f < h → Inside K sheet f p → Inside K sheet g p → Inside K sheet h p → above f g → above g h → ¬ above h f
+      no_three : (p : Point A) → IsPoint K p → IsGeneric K sheet p → (f g h : ℕ) → f < g → f < h → IsInside K sheet f p → IsInside K sheet g p → IsInside K sheet h p → above f g → above g h → ¬ above h f
       no_three p ip gp f g h lg lh i j k fg gh hf =
           none (Cycle f g h) (record { least = (lg, lh); around = (fg, gh, hf); point = p; is_point = ip; is_generic = gp; in_first = i; in_second = j; in_third = k })
 
-      acyclic : (p : Point A) → IsPoint K p → IsGeneric K sheet p → (f g h : ℕ) → Inside K sheet f p → Inside K sheet g p → Inside K sheet h p → above f g → above g h → ¬ above h f
+      acyclic : (p : Point A) → IsPoint K p → IsGeneric K sheet p → (f g h : ℕ) → IsInside K sheet f p → IsInside K sheet g p → IsInside K sheet h p → above f g → above g h → ¬ above h f
       acyclic p ip gp f g h i j k fg gh hf = go (cases_order f g) (cases_order g h) (cases_order h f)
         where
           go : (f ≡ g) ⊎ ((f < g) ⊎ (g < f)) → (g ≡ h) ⊎ ((g < h) ⊎ (h < g)) → (h ≡ f) ⊎ ((h < f) ⊎ (f < h)) → ⊥
@@ -151,25 +157,7 @@ module _ {A : Type 0} (K : OrderedRing A) (sheet : FoldedSheet A) (folded : Fold
           go (inr (inr a)) (inr (inr b)) (inr c) = no_three p ip gp h f g (omega arith) b k i j hf fg gh
 
       orderly : (p : Point A) → IsPoint K p → IsGeneric K sheet p → IsOrderly K sheet above p
-      orderly p ip gp = of (the_stack K sheet p)
-        where
-          of : Stack K sheet p → IsOrderly K sheet above p
-          of r = put (listed above {S = λ f. Inside K sheet f p} (record {
-            one_way = λ a b i j. one_way a b;
-            total = λ a b i j n. ranks a b n (record { point = p; is_point = ip; in_first = i; in_second = j });
-            acyclic = λ a b c i j k. acyclic p ip gp a b c i j k;
-          }) r.faces r.distinct (λ f h. (r.same f).0 h))
-            where
-              put : Listed above {S = λ f. Inside K sheet f p} (record {
-                one_way = λ a b i j. one_way a b;
-                total = λ a b i j n. ranks a b n (record { point = p; is_point = ip; in_first = i; in_second = j });
-                acyclic = λ a b c i j k. acyclic p ip gp a b c i j k;
-              }) r.faces → IsOrderly K sheet above p
-              put l = record {
-                layers = l.layers;
-                are_stack = λ f. ((λ h. (r.same f).0 ((l.same f).0 h)), (λ h. (l.same f).1 ((r.same f).1 h)));
-                descending = descending_of_chain above l.layers l.chain;
-              }
+      orderly p ip gp = ordered_stack K sheet above one_way ranks p ip (acyclic p ip gp)
 
       -- two different faces at one side of a seam point are ranked
       ranked : {line : Piece A} {p : Point A} → IsSeam K sheet line p → (o : Ordering) (f g : ℕ) → ¬ (f ≡ g) → IsAtSide K sheet line p o f → IsAtSide K sheet line p o g → above f g ⊎ above g f
@@ -177,16 +165,16 @@ module _ {A : Type 0} (K : OrderedRing A) (sheet : FoldedSheet A) (folded : Fold
 
       -- ---- letters
 
-      decide_normal : (f g : ℕ) (face : FoldedFace A) → slice_get sheet.faces g ≡ Some face → above f g ⊎ above g f → OnNormalSide K sheet above f g ⊎ ¬ OnNormalSide K sheet above f g
+      decide_normal : (f g : ℕ) (face : FoldedFace A) → slice_get sheet.faces g ≡ Some face → above f g ⊎ above g f → IsOnNormalSide K sheet above f g ⊎ ¬ IsOnNormalSide K sheet above f g
       decide_normal f g face e r = at face.turned refl r
         where
-          same_turn : (o : OnNormalSide K sheet above f g) → o.other.turned ≡ face.turned
+          same_turn : (o : IsOnNormalSide K sheet above f g) → o.other.turned ≡ face.turned
           same_turn o = let a = o.is_other in let same : o.other ≡ face = cc in ap (λ (x : FoldedFace A). x.turned) same
 
           clash : (t u : Bool) (x : Type 0) → t ≡ u → t ≡ false → u ≡ true → x
           clash t u x a b c = cc
 
-          at : (t : Bool) → face.turned ≡ t → above f g ⊎ above g f → OnNormalSide K sheet above f g ⊎ ¬ OnNormalSide K sheet above f g
+          at : (t : Bool) → face.turned ≡ t → above f g ⊎ above g f → IsOnNormalSide K sheet above f g ⊎ ¬ IsOnNormalSide K sheet above f g
           at false t (inl fg) = inl (record { other = face; is_other = e; lies = inl (t, fg) })
           at false t (inr gf) = inr (λ o. elim o.lies [ inl h ↦ one_way g f gf h.1 | inr h ↦ let s = same_turn o in let u = h.0 in cc ])
           at true t (inl fg) = inr (λ o. elim o.lies [ inl h ↦ let s = same_turn o in let u = h.0 in cc | inr h ↦ one_way f g fg h.1 ])
@@ -196,7 +184,7 @@ module _ {A : Type 0} (K : OrderedRing A) (sheet : FoldedSheet A) (folded : Fold
       swap_order (inl a) = inr a
       swap_order (inr b) = inl b
 
-      letters_at : (e f g : ℕ) (h : HasFaces K sheet e f g) → IsCrease h.edge.letter → ¬ ¬ LetterFits K sheet above h.edge.letter f g → Meet K sheet h → (a : AnyLetter) → h.edge.letter ≡ a → LetterFits K sheet above a f g
+      letters_at : (e f g : ℕ) (h : HasFaces K sheet e f g) → IsCrease h.edge.letter → ¬ ¬ LetterFits K sheet above h.edge.letter f g → MeetThere K sheet h → (a : AnyLetter) → h.edge.letter ≡ a → LetterFits K sheet above a f g
       letters_at e f g h c n m Border l = tt
       letters_at e f g h c n m Flat l = tt
       letters_at e f g h c n m Unassigned l = tt
@@ -223,7 +211,7 @@ module _ {A : Type 0} (K : OrderedRing A) (sheet : FoldedSheet A) (folded : Fold
                   at : MiddleOf s.line m.piece s.point → above f g ⊎ above g f
                   at o = on_side (Rattle.layers.proofs.Sides.crease_beside K sheet h c m f m.piece image)
                     where
-                      image : Rattle.layers.specs.Sheet.IsImage K sheet e f m.piece
+                      image : IsImage K sheet e f m.piece
                       image = record {
                         edge = h.edge;
                         is = h.is;
@@ -246,16 +234,19 @@ module _ {A : Type 0} (K : OrderedRing A) (sheet : FoldedSheet A) (folded : Fold
                           }) m in
                           ranked s.is_seam (Rattle.layers.proofs.Signs.flipped lines.flip b.first_side) f g differ (inr q.first_there) (inr q.second_there)
 
-          both : ¬ ¬ LetterFits K sheet above Valley f g → OnNormalSide K sheet above f g ⊎ ¬ OnNormalSide K sheet above f g → OnNormalSide K sheet above g f ⊎ ¬ OnNormalSide K sheet above g f → LetterFits K sheet above Valley f g
+          both : ¬ ¬ LetterFits K sheet above Valley f g → IsOnNormalSide K sheet above f g ⊎ ¬ IsOnNormalSide K sheet above f g → IsOnNormalSide K sheet above g f ⊎ ¬ IsOnNormalSide K sheet above g f → LetterFits K sheet above Valley f g
           both k (inl a) (inl b) = (a, b)
           both k (inr a) b = absurd (k (λ fits. a fits.0))
           both k (inl a) (inr b) = absurd (k (λ fits. b fits.1))
 
-      letters : (e f g : ℕ) (h : HasFaces K sheet e f g) → IsCrease h.edge.letter → LetterFits K sheet above h.edge.letter f g
-      letters e f g h c =
+      crease_letters : (e f g : ℕ) (h : HasFaces K sheet e f g) → IsCrease h.edge.letter → LetterFits K sheet above h.edge.letter f g
+      crease_letters e f g h c =
           let m = folded.crease_meets e f g h c in
           let s = seam_of K sheet folded above e f g h m in
-          letters_at e f g h c (λ n. none (Letter e) (record { first = f; second = g; faces = h; is_crease = c; misfit = n; point = s.point; line = s.line; is_seam = s.is_seam; through = s.through })) m h.edge.letter refl
+          letters_at e f g h c (λ n. none (Letter e) (record { first = f; second = g; faces = h; misfit = n; point = s.point; line = s.line; is_seam = s.is_seam; through = s.through })) m h.edge.letter refl
+
+      letters : (e f g : ℕ) (h : HasFaces K sheet e f g) → LetterFits K sheet above h.edge.letter f g
+      letters e f g h = elim (crease_or_fits K sheet above h.edge.letter f g) [ inl c ↦ crease_letters e f g h c | inr fits ↦ fits ]
 
       -- ---- clear seam points
 
@@ -273,20 +264,20 @@ module _ {A : Type 0} (K : OrderedRing A) (sheet : FoldedSheet A) (folded : Fold
       join_there seam s e f g a = both_there seam a (folded.join_meets e f g a.faces a.lettered)
 
       -- an edge and a face across: neither of the edge's faces is the face
-      edge_over_face : {line : Piece A} {p : Point A} → IsSeam K sheet line p → (s : Ordering) (e f g h : ℕ) → IsAcross K sheet line p s (Edge e) f g → Inside K sheet h p → above f h → above g h
+      edge_over_face : {line : Piece A} {p : Point A} → IsSeam K sheet line p → (s : Ordering) (e f g h : ℕ) → IsAcross K sheet line p s (Edge e) f g → IsInside K sheet h p → above f h → above g h
       edge_over_face {line} {p} seam s e f g h a i fh = of (join_there seam s e f g a)
         where
           of : BothThere line p s (ordering_reverse s) f g a.faces.first a.faces.second → above g h
-          of b = elim (ranked seam (ordering_reverse s) g h (λ z. not_inside b.second_there (subst (λ x. Inside K sheet x p) (sym z) i)) (inr b.second_there) (inl i)) [
+          of b = elim (ranked seam (ordering_reverse s) g h (λ z. not_inside b.second_there (subst (λ x. IsInside K sheet x p) (sym z) i)) (inr b.second_there) (inl i)) [
             | inl gh ↦ gh
             | inr hg ↦ absurd (none (Joined e (Face h)) (record { ordered = tt; point = p; line = line; is_seam = seam; upper_side = s; first = f; second = g; is_across = a; other_first = h; other_second = h; is_other_across = (i, refl, refl); changes = (fh, hg) }))
           ]
 
-      face_over_edge : {line : Piece A} {p : Point A} → IsSeam K sheet line p → (s : Ordering) (d h k f : ℕ) → IsAcross K sheet line p s (Edge d) h k → Inside K sheet f p → above f h → above f k
+      face_over_edge : {line : Piece A} {p : Point A} → IsSeam K sheet line p → (s : Ordering) (d h k f : ℕ) → IsAcross K sheet line p s (Edge d) h k → IsInside K sheet f p → above f h → above f k
       face_over_edge {line} {p} seam s d h k f a i fh = of (join_there seam s d h k a)
         where
           of : BothThere line p s (ordering_reverse s) h k a.faces.first a.faces.second → above f k
-          of b = elim (ranked seam (ordering_reverse s) f k (λ z. not_inside b.second_there (subst (λ x. Inside K sheet x p) z i)) (inl i) (inr b.second_there)) [
+          of b = elim (ranked seam (ordering_reverse s) f k (λ z. not_inside b.second_there (subst (λ x. IsInside K sheet x p) z i)) (inl i) (inr b.second_there)) [
             | inl fk ↦ fk
             | inr kf ↦ absurd (none (Joined d (Face f)) (record {
               ordered = tt;
@@ -347,7 +338,7 @@ module _ {A : Type 0} (K : OrderedRing A) (sheet : FoldedSheet A) (folded : Fold
                   on_both i a b = of (folded.has_inside g a.second_there.of_face.face a.second_there.of_face.is_face)
                     where
                       of : HasInside K sheet g → ⊥
-                      of v = side_not_equal seam b.first_there (not_own_reverse s (sym (y.first_side v.point v.is_point (subst (λ j. Inside K sheet j v.point) i v.inside)) ∙ x.second_side v.point v.is_point v.inside))
+                      of v = side_not_equal seam b.first_there (not_own_reverse s (sym (y.first_side v.point v.is_point (subst (λ j. IsInside K sheet j v.point) i v.inside)) ∙ x.second_side v.point v.is_point v.inside))
 
               order : ¬ (e ≡ d) → above g k ⊎ above k g
               order n = at (join_there seam s e f g x) (join_there seam s d h k y)

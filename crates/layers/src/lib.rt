@@ -1,13 +1,14 @@
-//! What the layers of a folded sheet are, at points and by the judge's list.
+//! What the layers of a folded sheet are, at single points and by finitely many tests.
 //!
-//! The code is three types of names. `specs/` says what a folded sheet is, what holds of its stacks, seams and letters at single
-//! points of the plane, and which finitely many tests the judge makes; `proofs/` shows that the tests decide the points.
+//! The code is two types of names. `specs/` says what a folded sheet is, which face is above which, and what holds of stacks,
+//! seams and letters at the points of the plane; that the tests decide the points stands on functions that do nothing.
 #![tactic(auto)]
 
 mod crossing;
-mod theorems;
+mod laws;
 
 pub use crossing::{Crossing, Strand};
-pub use theorems::{
-    face_wise_equals_pointwise, faces_overlap_at_a_seam, open_parts_hold_generic_points,
+pub use laws::{
+    convex_faces_hold_points, crossings_by_faces, faces_overlap_at_a_seam, list_decides_points,
+    open_parts_hold_generic_points, orders_rank_faces, stacks_can_be_listed,
 };
