@@ -5,8 +5,8 @@ use mathlib.Core.Logic.{inl, inr}
 use mathlib.Core.Path.{◌≡◌, refl, sym, ap, subst, ◌∙◌}
 use Prim.Native.Nat.{ℕ, zero, suc}
 use lib.IntN.{pos}
-use Rattle.plane.proofs.Lines.{swapped as side_swapped}
-use Rattle.std.specs.Prelude.{Some}
+use Rattle.plane.proofs.Lines.{swapped as side_swapped, value_multiple, value_combination, same_of_flat, weight_line, value_weight}
+use Rattle.std.specs.Prelude.{Some, Contains}
 use Rattle.std.specs.List.{slice_get}
 use Rattle.std.specs.declared.cmp.Ordering.{Ordering}
 use Rattle.std.specs.declared.cmp.Ordering.TheVariants.{Less, Equal, Greater}
@@ -17,11 +17,9 @@ use Rattle.plane.specs.Lines.{value, LiesIn}
 use Rattle.algebra.proofs.Solvers.{reads, ring, sign_from, sign_of_multiple, known, no_sign, given, sum, positive, not_negative}
 use Rattle.plane.specs.declared.point.Line.{Line}
 use Rattle.plane.specs.Points.{IsPoint, IsSamePoint}
-use Rattle.std.specs.Prelude.{Contains}
 use Rattle.layers.proofs.FoldedFacts.{HasInside, InsideNear}
 use Rattle.plane.proofs.Members.{in_cons, in_head, in_tail, in_nil}
 use Rattle.layers.proofs.Signs.{flipped}
-use Rattle.plane.proofs.Lines.{value_multiple, value_combination, same_of_flat}
 use Rattle.layers.proofs.Faces.{side_is_value, inward_line, inward_sign, inward_side, inner_not_equal}
 use Rattle.plane.proofs.Signs.{not_less_is_ge, ge_is_not_less}
 use Rattle.layers.proofs.Sides.{HasEnds, piece_ends, Relined, relined}
@@ -65,13 +63,6 @@ module _ {A : Type 0} (K : OrderedRing A) where
     | inr j ↦ ap K.sign (K.add_comm (value K.ops l p) (value K.ops l (centre ps))) ∙ positive_sum (value K.ops l (centre ps)) (value K.ops l p) (centre_positive l ps (λ w k. h w (in_tail p ps w k)) v j g) (h p (in_head p ps))
   ]
 
-  weight_line : Line A
-  weight_line = record { a = K.int (pos 0); b = K.int (pos 0); c = K.int (pos 1) }
-
-  value_of_weight : (p : Point A) → value K.ops weight_line p ≡ p.w
-  unfolding weight_line
-  value_of_weight p = ring K (p.x ∷ p.y ∷ p.w ∷ []) (search reads depth 40 fits 50000) (search reads depth 40 fits 50000) tt
-
   not_less_of_greater : (a : A) → K.sign a ≡ Greater → ¬ (K.sign a ≡ Less)
   not_less_of_greater a h e = let z = sym h ∙ e in cc
 
@@ -89,9 +80,9 @@ module _ {A : Type 0} (K : OrderedRing A) where
 
     pub centre_is_point : IsPoint K (centre face.corners)
     centre_is_point =
-        sym (ap K.sign (value_of_weight (centre face.corners)))
-        ∙ centre_positive weight_line face.corners (λ v i. not_less_of_greater (value K.ops weight_line v) (ap K.sign (value_of_weight v) ∙ convex.points v i)) convex.some_corner.0 convex.some_corner.1
-        (ap K.sign (value_of_weight convex.some_corner.0) ∙ convex.points convex.some_corner.0 convex.some_corner.1)
+        sym (ap K.sign (value_weight K (centre face.corners)))
+        ∙ centre_positive (weight_line K) face.corners (λ v i. not_less_of_greater (value K.ops (weight_line K) v) (ap K.sign (value_weight K v) ∙ convex.points v i)) convex.some_corner.0 convex.some_corner.1
+        (ap K.sign (value_weight K convex.some_corner.0) ∙ convex.points convex.some_corner.0 convex.some_corner.1)
 
     pub centre_inside : IsInsideFace K face (centre face.corners)
     centre_inside s j =

@@ -5,8 +5,8 @@ use mathlib.Core.List.{List, [], ◌∷◌, ◌++◌}
 use mathlib.Core.Logic.{inl, inr}
 use Prim.Native.Nat.{ℕ, zero, suc}
 use lib.IntN.{pos}
-use Rattle.plane.proofs.Lines.{swapped as side_swapped}
-use Rattle.std.specs.Prelude.{Some}
+use Rattle.plane.proofs.Lines.{swapped as side_swapped, value_combination, value_multiple}
+use Rattle.std.specs.Prelude.{Some, Contains}
 use Rattle.std.specs.List.{slice_get}
 use Rattle.std.specs.declared.cmp.Ordering.TheVariants.{Equal, Greater}
 use Rattle.std.specs.Ordering.{ordering_reverse}
@@ -16,12 +16,10 @@ use Rattle.plane.specs.Lines.{value, line, LiesIn}
 use Rattle.algebra.proofs.Solvers.{reads, ring, sign_of_multiple}
 use Rattle.plane.specs.declared.point.Line.{Line}
 use Rattle.plane.specs.Points.{IsPoint}
-use Rattle.std.specs.Prelude.{Contains}
 use Rattle.layers.proofs.FoldedFacts.{FoldedFacts}
 use Rattle.plane.proofs.Members.{in_cons, in_tail, in_nil}
 use Rattle.std.proofs.lemmas.List.Elements.{Contains-append_left as in_left, Contains-append_right as in_right, Contains-append_cases as in_either}
 use Rattle.layers.proofs.Places.{is_head, at_place, stands_at}
-use Rattle.plane.proofs.Lines.{value_combination, value_multiple}
 use Rattle.plane.proofs.Signs.{zero_sign, positive_product}
 use Rattle.plane.proofs.Density.{Found, dense}
 use Rattle.layers.specs.Pieces.{Piece, pieces_round, side_of, IsOnPiece}

@@ -3,13 +3,12 @@ use mathlib.Core.Path.{◌≡◌}
 use mathlib.Core.Bool.{Bool}
 use mathlib.Core.List.{List}
 use Prim.Native.Nat.{ℕ}
-use Rattle.std.specs.Prelude.{Some}
+use Rattle.std.specs.Prelude.{Some, Contains}
 use Rattle.std.specs.List.{slice_get}
 use Rattle.algebra.specs.OrderedRing.{OrderedRing}
 use Rattle.plane.specs.declared.point.Point.{Point}
 use Rattle.plane.specs.declared.point.Line.{Line}
 use Rattle.plane.specs.Points.{IsPoint}
-use Rattle.std.specs.Prelude.{Contains}
 use Rattle.plane.specs.Lines.{LiesIn}
 use Rattle.layers.specs.Pieces.{Piece, side_of, IsInMiddle}
 use Rattle.layers.specs.Sheets.{IsCrease, IsJoin, FoldedFace, FaceSide, FoldedEdge, FoldedSheet, inner_side, IsInside, HasPiece, HasFaces}

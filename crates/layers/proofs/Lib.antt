@@ -15,3 +15,4 @@ pub mod Choices
 pub mod Convex
 pub mod Known
 pub mod Orders
+pub mod Naming

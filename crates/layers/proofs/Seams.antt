@@ -4,20 +4,17 @@ use mathlib.Core.List.{List, [], ◌∷◌, ◌++◌}
 use mathlib.Core.Logic.{◌⊎◌, inl, inr}
 use Prim.Native.Nat.{ℕ, zero, suc}
 use lib.IntN.{pos}
-use Rattle.std.specs.Prelude.{Some}
+use Rattle.std.specs.Prelude.{Some, Contains}
 use Rattle.std.specs.List.{slice_get}
 use Rattle.std.specs.declared.cmp.Ordering.{Ordering}
 use Rattle.std.specs.declared.cmp.Ordering.TheVariants.{Less, Equal, Greater}
 use Rattle.algebra.specs.OrderedRing.{OrderedRing}
-use Rattle.plane.specs.Lines.{perpendicular}
-use Rattle.plane.specs.Points.{x_from, y_from}
+use Rattle.plane.specs.Lines.{perpendicular, value, LiesIn}
+use Rattle.plane.specs.Points.{x_from, y_from, combination, IsPoint, IsSamePoint}
 use Rattle.plane.specs.declared.point.Point.{Point}
 use Rattle.algebra.proofs.RingLaws.{equal_of_difference}
 use Rattle.algebra.proofs.Solvers.{reads, ring, ring_from, multiple, no_equation, sign_from, sign_of_multiple, known, no_sign, given, sum, square, unknown, variable, positive, negative}
 use Rattle.plane.specs.declared.point.Line.{Line}
-use Rattle.plane.specs.Lines.{value, LiesIn}
-use Rattle.plane.specs.Points.{combination, IsPoint, IsSamePoint}
-use Rattle.std.specs.Prelude.{Contains}
 use Rattle.layers.proofs.FoldedFacts.{FoldedFacts}
 use Rattle.plane.proofs.Members.{in_cons, in_tail, in_nil}
 use Rattle.std.proofs.lemmas.List.Elements.{Contains-append_left as in_left, Contains-append_right as in_right}

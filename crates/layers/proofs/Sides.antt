@@ -5,8 +5,8 @@ use mathlib.Core.List.{List, [], ◌∷◌, ◌++◌}
 use mathlib.Core.Logic.{◌⊎◌, inl, inr}
 use Prim.Native.Nat.{ℕ, zero, suc}
 use lib.IntN.{pos}
-use Rattle.plane.proofs.Lines.{swapped as side_swapped}
-use Rattle.std.specs.Prelude.{Some}
+use Rattle.plane.proofs.Lines.{swapped as side_swapped, proportional, same_of_flat, times_zero}
+use Rattle.std.specs.Prelude.{Some, Contains}
 use Rattle.std.specs.List.{slice_get}
 use Rattle.std.specs.declared.cmp.Ordering.{Ordering}
 use Rattle.std.specs.declared.cmp.Ordering.TheVariants.{Equal, Greater}
@@ -18,11 +18,9 @@ use Rattle.plane.specs.Lines.{determinant, value, LiesIn}
 use Rattle.algebra.proofs.Solvers.{sign_of_multiple}
 use Rattle.plane.specs.declared.point.Line.{Line}
 use Rattle.plane.specs.Points.{combination, IsPoint, IsSamePoint}
-use Rattle.std.specs.Prelude.{Contains}
 use Rattle.layers.proofs.FoldedFacts.{FoldedFacts, HasInside, InsideNear}
 use Rattle.plane.proofs.Members.{in_cons, in_tail, in_nil}
 use Rattle.layers.proofs.Signs.{flipped, reverse_twice, flipped_twice, flipped_cancels, differ, equal_products}
-use Rattle.plane.proofs.Lines.{proportional, same_of_flat, times_zero}
 use Rattle.plane.proofs.Signs.{positive_product}
 use Rattle.plane.proofs.Density.{Nearby, nearby, value_of_nearby}
 use Rattle.layers.proofs.Faces.{line_of, side_is_value, borders, inside_lies, lies_inside, inner_not_equal, zero_on_piece, inside_off}

@@ -6,13 +6,12 @@ use Prim.Native.Nat.{ℕ, zero, suc, ◌<◌}
 use lib.ListN.{length}
 use Rattle.std.proofs.Common.{arith}
 use Rattle.std.proofs.lemmas.Bool.{cases_order}
-use Rattle.std.specs.Prelude.{Option, Some, None}
+use Rattle.std.specs.Prelude.{Option, Some, None, Contains}
 use Rattle.std.specs.List.{slice_get}
 use Rattle.std.specs.declared.cmp.Ordering.{Ordering}
 use Rattle.std.specs.declared.cmp.Ordering.TheVariants.{Less, Equal, Greater}
 use Rattle.algebra.specs.OrderedRing.{OrderedRing}
 use Rattle.plane.specs.declared.point.Point.{Point}
-use Rattle.std.specs.Prelude.{Contains}
 use Rattle.plane.proofs.Members.{in_cons, in_tail, in_nil}
 use Rattle.layers.proofs.Places.{is_head, at_place, stands_at}
 use Rattle.layers.proofs.Tournament.{Distinct, IsTournament, Listed, listed, descending_of_chain, no_cycle}

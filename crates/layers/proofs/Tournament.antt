@@ -5,9 +5,8 @@ use mathlib.Core.Logic.{◌⊎◌, inl, inr, ◌↔◌}
 use Prim.Native.Nat.{ℕ, zero, suc, ◌<◌}
 use Rattle.std.proofs.Common.{arith}
 use Rattle.std.proofs.lemmas.Bool.{cases_order}
-use Rattle.std.specs.Prelude.{Some}
+use Rattle.std.specs.Prelude.{Some, Contains}
 use Rattle.std.specs.List.{slice_get}
-use Rattle.std.specs.Prelude.{Contains}
 use Rattle.plane.proofs.Members.{in_cons, in_head, in_tail, in_nil}
 use Rattle.layers.proofs.Places.{is_head, at_place, stands_at}
 use Rattle.layers.specs.Orders.{Descending}

@@ -6,7 +6,7 @@ use mathlib.Core.Logic.{◌⊎◌, inl, inr, ◌↔◌}
 use Prim.Native.Nat.{ℕ, ◌<◌}
 use Rattle.std.proofs.Common.{arith}
 use Rattle.std.proofs.lemmas.Bool.{cases_order}
-use Rattle.std.specs.Prelude.{Some}
+use Rattle.std.specs.Prelude.{Some, Contains}
 use Rattle.std.specs.List.{slice_get}
 use Rattle.std.specs.declared.cmp.Ordering.{Ordering}
 use Rattle.std.specs.declared.cmp.Ordering.TheVariants.{Less, Equal, Greater}
@@ -14,7 +14,6 @@ use Rattle.std.specs.Ordering.{ordering_reverse}
 use Rattle.algebra.specs.OrderedRing.{OrderedRing}
 use Rattle.plane.specs.declared.point.Point.{Point}
 use Rattle.plane.specs.Points.{IsPoint}
-use Rattle.std.specs.Prelude.{Contains}
 use Rattle.layers.proofs.FoldedFacts.{FoldedFacts, HasInside}
 use Rattle.layers.proofs.Signs.{reverse_twice, flipped_equal}
 use Rattle.layers.proofs.Faces.{side_is_value, inner_not_equal, on_own_line}
@@ -30,14 +29,13 @@ use Rattle.layers.specs.declared.crossing.Strand.TheVariants.{Face, Edge}
 use Rattle.layers.specs.declared.crossing.Crossing.{Crossing}
 use Rattle.layers.specs.declared.crossing.Crossing.TheVariants.{Cycle, Through, Creases, Joined, Letter}
 use Rattle.layers.specs.Pieces.{Piece, reversed, pieces_round, side_of, IsOnPiece, IsInMiddle, IsAlong}
-use Rattle.layers.specs.Sheets.{IsCrease, FoldedFace, FaceSide, FoldedEdge, FoldedSheet, inner_side, IsInside, HasPiece, HasFaces, GoesThrough}
+use Rattle.layers.specs.Sheets.{IsCrease, FoldedFace, FaceSide, FoldedEdge, FoldedSheet, inner_side, IsInside, HasPiece, HasFaces, GoesThrough, IsImage}
 use Rattle.layers.specs.Orders.{NoClash, RanksOverlaps}
 use Rattle.layers.specs.Points.{IsGeneric, IsSeam, LiesOn, BeginsAt, IsAtSide, IsEdgeThere, IsAcross, IsOrderly, IsClear, IsOnNormalSide, LetterFits, IsLayered}
 use Rattle.layers.specs.Crossings.{Occurs}
 use Rattle.layers.specs.Listing.{IsListed}
 use Rattle.layers.specs.Folded.{MeetThere}
 use Rattle.layers.proofs.Letters.{crease_or_fits}
-use Rattle.layers.specs.Sheets.{IsImage}
 
 not_own_reverse : (o : Ordering) → o ≡ ordering_reverse o → o ≡ Equal
 not_own_reverse Less e = cc

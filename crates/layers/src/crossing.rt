@@ -1,14 +1,13 @@
 /// What lies across a folded edge: a face on both sides of it, or an edge whose two faces lie
 /// flat beside each other.
-#[derive(Clone, Copy, PartialEq, Eq, PartialOrd, Ord, Debug)]
+#[derive(Clone, Copy, Debug, PartialEq, Eq)]
 pub enum Strand {
     Face(u32),
     Edge(u32),
 }
 
-/// A place where the layers of a folded sheet can't lie as they are ordered. The derived order is
-/// the order in which they are named: by the kind, then the ids, a face before an edge.
-#[derive(Clone, Copy, PartialEq, Eq, PartialOrd, Ord, Debug)]
+/// Where the layers of a folded sheet can't lie as they are ordered, by the ids of faces and edges.
+#[derive(Clone, Copy, Debug, PartialEq, Eq)]
 pub enum Crossing {
     /// Three faces share a point, each above the next, and the last above the first.
     Cycle(u32, u32, u32),

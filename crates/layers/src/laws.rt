@@ -1,5 +1,7 @@
 ghost use Rattle.std.specs.Prelude.{◌≡◌, ◌↔◌, ◌⊎◌, ◌<◌, ℕ, List, Contains};
+ghost use Rattle.std.specs.Cmp.{IsTotalOrder};
 ghost use Rattle.std.specs.declared.cmp.Ordering.{Ordering};
+ghost use Rattle.std.specs.declared.cmp.Ordering.TheVariants.{Equal};
 ghost use Rattle.algebra.specs.OrderedRing.{OrderedRing};
 ghost use Rattle.plane.specs.declared.point.Point.{Point};
 ghost use Rattle.plane.specs.declared.point.Line.{Line};
@@ -12,7 +14,7 @@ ghost use Rattle.layers.specs.Pieces.{Piece, IsInMiddle, pieces_round, side_of};
 ghost use Rattle.layers.specs.Sheets.{FoldedFace, FoldedSheet, HasFaces, IsCrease, IsImage, IsInside, IsInsideFace, IsJoin, Overlap, inner_side};
 ghost use Rattle.layers.specs.Orders.{LayerOrder, Above, LiesBetween, NoClash, OneBetween, Opposed, RanksOverlaps, Unranked};
 ghost use Rattle.layers.specs.Points.{IsAtSide, IsGeneric, IsLayered, IsOrderly, IsSeam, LetterFits};
-ghost use Rattle.layers.specs.Crossings.{Occurs};
+ghost use Rattle.layers.specs.Crossings.{Occurs, crossing_order};
 ghost use Rattle.layers.specs.Listing.{AreBeside, Changes, EdgeEnters, IsListed, RunTogether};
 ghost use Rattle.layers.specs.Folded.{IsConvex, IsFolded};
 
@@ -96,6 +98,12 @@ pub fn crossings_by_faces<T>()
     ensures letter { (K : OrderedRing T) (sheet : FoldedSheet T) (orders : List LayerOrder) (e f g : ℕ)
         (faces : HasFaces K sheet e f g)
         → IsListed K sheet (Above sheet orders) (Letter e) ↔ (¬ LetterFits K sheet (Above sheet orders) faces.edge.letter f g) }
+{}
+
+/// The order of crossings is total, and tells apart all that aren't one crossing.
+pub fn crossings_in_order()
+    ensures total { IsTotalOrder crossing_order }
+    ensures same { (c d : AnyCrossing) → crossing_order c d ≡ Equal ↔ c ≡ d }
 {}
 
 /// Each kind of crossing with its ids stands by the list of tests exactly where it occurs at some point. So, where the orders

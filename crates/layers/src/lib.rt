@@ -9,6 +9,6 @@ mod laws;
 
 pub use crossing::{Crossing, Strand};
 pub use laws::{
-    convex_faces_hold_points, crossings_by_faces, faces_overlap_at_a_seam, list_decides_points,
-    open_parts_hold_generic_points, orders_rank_faces, stacks_can_be_listed,
+    convex_faces_hold_points, crossings_by_faces, crossings_in_order, faces_overlap_at_a_seam,
+    list_decides_points, open_parts_hold_generic_points, orders_rank_faces, stacks_can_be_listed,
 };
