@@ -1,10 +1,9 @@
 //! Cuts the segments of a drawing that it makes itself, and prints how many vertices and pieces there are with a checksum,
-//! for a clock outside. `piece_timing grid 128` has 128 lines each way; `random`, `line`, `point` and `all` have so many
+//! for a clock outside. `piece_timing grid 256` has 128 lines each way; `random`, `line`, `point` and `all` have so many
 //! segments at random, along one line, through one point, and all crossing in different points.
 #![tactic(auto)]
 
-ghost use Rattle.std.specs.Prelude.{◌≡◌, pos, ◌<◌, ◌≤◌, ◌++◌, length, Contains, IfSome, IfOk};
-ghost use Rattle.scaled_plane.specs.declared.point.Segment.{Segment as AnySegment};
+ghost use Rattle.std.specs.Prelude.{◌≡◌, pos, ◌<◌, ◌≤◌, ◌<ℤ◌, ◌≤ℤ◌, All, IfSome, IfOk, OnOk};
 ghost use Rattle.scaled_plane.specs.Drawn.{IsScaledPoint, IsScaledSegment};
 
 use arrangement::{PieceFault, pieces};
@@ -16,7 +15,7 @@ use scaled_plane::{Drawing, Segment};
 use segment_tests::Steps;
 use std::alloc::{AllocError, Global};
 use std::marker::Brand;
-use std::sync::ledger::Blank;
+use std::sync::ledger::{Blank, Ledger};
 use std::{env, io};
 
 /// No drawing has more segments.
@@ -32,16 +31,16 @@ struct Dice {
 }
 
 impl Dice {
-    /// A number from 0 on and below a power of two.
-    fn roll(&mut self, bits: u32) -> i128
-        requires { bits < 32 }
+    /// A number from 0 on and below this one.
+    fn roll(&mut self, below: u64) -> i128
+        requires { 0 < below }
+        ensures { (pos 0 ≤ℤ result) × (result <ℤ pos below) }
     {
         self.state = self
             .state
             .wrapping_mul(6_364_136_223_846_793_005)
             .wrapping_add(1_442_695_040_888_963_407);
-        let mask = (1u64 << bits) - 1;
-        ((self.state >> 33) & mask) as i128
+        ((self.state >> 33) % below) as i128
     }
 }
 
@@ -86,7 +85,11 @@ fn segment<W: Whole>(way: Way) -> Option<Segment<W>>
 }
 
 /// Where the segment of a number lies in a drawing.
-fn way(drawing: &str, count: i128, i: i128, dice: &mut Dice) -> Way {
+fn way(drawing: &str, count: i128, i: i128, dice: &mut Dice) -> Way
+    requires from_zero { pos 0 ≤ℤ i }
+    requires below { i <ℤ count }
+    requires few { count ≤ℤ pos 2048 }
+{
     match drawing {
         "grid" => {
             let half = count / 2;
@@ -96,23 +99,45 @@ fn way(drawing: &str, count: i128, i: i128, dice: &mut Dice) -> Way {
                 ((i - half, 0), (i - half, half - 1))
             }
         }
-        "line" => ((i, 2 * i), (i + count, 2 * i + 2 * count)),
+        "line" => ((i, i), (i + count, i + count)),
         "point" => ((-4000, -i), (4000, i)),
-        "all" => ((0, i * i), (4000, -2 * i)),
+        "all" => ((0, 1000 * i), (4000, dice.roll(512) - 1000 * i)),
         _ => {
-            let (x, y) = (dice.roll(21), dice.roll(21));
-            ((x, y), (x + dice.roll(18) - 131_072, y + dice.roll(18) - 131_072))
+            let x = dice.roll(1 << 21);
+            let y = dice.roll(1 << 21);
+            let right = dice.roll(1 << 19) - (1 << 18);
+            let up = dice.roll(1 << 19) - (1 << 18);
+            ((x, y), (x + right, y + up))
         }
     }
 }
 
-fn drawn<W: Whole>(alloc: Global, drawing: &str, count: u32) -> Result<List<Segment<W>>, AllocError> {
+/// Appends a segment, if it's small enough.
+fn push_segment<W: Whole>(segments: &mut List<Segment<W>>, way: Way) -> Result<(), AllocError>
+    ensures { OnOk result (All (IsScaledSegment W.numbers) segments.old → All (IsScaledSegment W.numbers) segments.new) }
+{
+    match segment(way) {
+        Some(segment) => match segments.push(segment) {
+            Ok(()) => Ok(()),
+            Err(refused) => Err(AllocError::from(refused)),
+        },
+        None => Ok(()),
+    }
+}
+
+/// The segments of a drawing.
+fn drawn<W: Whole>(
+    alloc: Global,
+    drawing: &str,
+    count: u32,
+) -> Result<List<Segment<W>>, AllocError>
+    requires { count ≤ 2048 }
+    ensures { IfOk result (All (IsScaledSegment W.numbers)) }
+{
     let mut segments = List::new(alloc);
     let mut dice = Dice { state: 1 };
     for i in 0..count {
-        if let Some(segment) = segment(way(drawing, count as i128, i as i128, &mut dice)) {
-            segments.push(segment)?;
-        }
+        push_segment(&mut segments, way(drawing, count as i128, i as i128, &mut dice))?;
     }
     Ok(segments)
 }
@@ -127,6 +152,21 @@ fn checksum(drawing: &Drawing<RationalRing>) -> u64 {
     sum
 }
 
+/// The drawing of segments. Nobody reads the count of tests here.
+fn cut<W: Whole, L: Ledger>(
+    alloc: Global,
+    blank: Blank,
+    segments: &List<Segment<W>>,
+) -> Result<Drawing<W>, PieceFault>
+    requires scaled { All (IsScaledSegment W.numbers) segments.now }
+    requires name { blank.name ≡ L.name }
+    requires parts { blank.parts ≡ L.parts }
+    requires some { 0 < L.parts }
+{
+    let mut steps: Steps<L> = Steps::new(blank);
+    pieces(alloc, segments, &mut steps)
+}
+
 fn main(rt: HostRuntime) -> io::Result<()> {
     let mut words = env::args(&rt)?.skip(1);
     let drawing = words.next();
@@ -135,12 +175,11 @@ fn main(rt: HostRuntime) -> io::Result<()> {
         None => 0,
     };
     let count = count.min(MOST);
-    let mut steps: Steps<Brand> = Steps::new(Blank::new(1));
     let segments = match drawing {
         Some(word) => drawn(rt.alloc(), word.as_str(), count)?,
         None => List::new(rt.alloc()),
     };
-    match pieces(rt.alloc(), &segments, &mut steps) {
+    match cut::<RationalRing, Brand>(rt.alloc(), Blank::new(1), &segments) {
         Ok(drawing) => {
             let vertices = drawing.vertices.len();
             let edges = drawing.edges.len();

@@ -1,7 +1,9 @@
 //! The plane at the rationals and at a+b√2: points that are scaled, the first that's too wide, points made exact again, and
-//! what segments have in common.
+//! what segments have in common, and what they are cut into.
 #![tactic(auto)]
 
+#[cfg(test)]
+mod cutting;
 #[cfg(test)]
 mod meeting;
 #[cfg(test)]

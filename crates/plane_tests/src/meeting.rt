@@ -15,7 +15,7 @@ use std::marker::Brand;
 use std::process::Abort;
 use std::sync::ledger::{Blank, Ledger};
 
-type Place = (i128, i128);
+pub type Place = (i128, i128);
 
 /// What two segments have in common, by the parts without a root.
 #[derive(Clone, Copy, PartialEq, Eq, Debug)]
@@ -50,16 +50,12 @@ fn scaled<W: Whole>(place: Place) -> Option<Point<W>>
     }
 }
 
-fn segment<W: Whole>(from: Place, to: Place) -> Option<Segment<W>>
+pub fn segment<W: Whole>(from: Place, to: Place, letter: Letter) -> Option<Segment<W>>
     ensures { IfSome result (λ s. IsScaledSegment W.numbers s) }
 {
     match scaled(from) {
         Some(from) => match scaled(to) {
-            Some(to) => Some(Segment {
-                from,
-                to,
-                letter: Letter::Mountain,
-            }),
+            Some(to) => Some(Segment { from, to, letter }),
             None => None,
         },
         None => None,
@@ -121,8 +117,8 @@ fn described<W: Whole>(meet: Meet<W>) -> Told {
 }
 
 fn between<W: Whole>(rt: &impl Abort, s: (Place, Place), t: (Place, Place)) -> Told {
-    let s = segment::<W>(s.0, s.1).expect(rt, "small");
-    let t = segment::<W>(t.0, t.1).expect(rt, "small");
+    let s = segment::<W>(s.0, s.1, Letter::Mountain).expect(rt, "small");
+    let t = segment::<W>(t.0, t.1, Letter::Mountain).expect(rt, "small");
     described(common::<W, Brand>(Blank::new(1), s, t).expect(rt, "proper"))
 }
 
