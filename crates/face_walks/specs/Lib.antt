@@ -1,0 +1,5 @@
+pub mod Linked
+pub mod Pairs
+pub mod Headings
+pub mod Rings
+pub mod Links

@@ -1,0 +1,7 @@
+//! The walks round the faces of a drawing, and round its outside.
+#![tactic(auto)]
+
+mod headings;
+mod links;
+mod pairs;
+mod rings;
