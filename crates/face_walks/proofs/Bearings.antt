@@ -6,7 +6,7 @@ use Rattle.std.specs.Ordering.{ordering_reverse}
 use Rattle.std.specs.declared.cmp.Ordering.{Ordering}
 use Rattle.std.specs.declared.cmp.Ordering.TheVariants.{Less, Equal, Greater}
 use Rattle.algebra.specs.OrderedRing.{OrderedRing}
-use Rattle.algebra.proofs.Solvers.{reads, ring, ring_from, multiple, no_equation, sign_of_multiple}
+use Rattle.algebra.proofs.Solvers.{reads, ring, ring_from, multiple, no_equation, sign_of_multiple, sign_neg, sign_from, known, no_sign, at_zero, any_sign, given, sum, product}
 use Rattle.plane.specs.declared.point.Point.{Point}
 use Rattle.plane.specs.Points.{IsSamePoint, point_order}
 use Rattle.plane.specs.Lines.{side}
@@ -14,7 +14,7 @@ use Rattle.plane.specs.Directions.{Direction, direction, turn, along, IsClockwis
 use Rattle.plane.proofs.Lines.{swapped}
 use Rattle.plane.proofs.Order.{order_turned, same_of_equal}
 use Rattle.plane.proofs.Turning.{clockwise_turned}
-use Rattle.plane.proofs.Ways.{clockwise_same, turn_same, way_along}
+use Rattle.plane.proofs.Ways.{clockwise_same, squares_by, turn_same, way_along}
 
 module _ {A : Type 0} (K : OrderedRing A) where
   opposite_ways : (a b p q : Point A) → IsSameWay K (direction K.ops a b) (direction K.ops p q) → IsSameWay K (direction K.ops b a) (direction K.ops q p)
@@ -65,12 +65,44 @@ module _ {A : Type 0} (K : OrderedRing A) where
 
   -- ---- directions that lead the same way
 
-  along_same : (d e f : Direction A) → IsSameWay K d e → K.sign (along K.ops d d) ≡ Greater → K.sign (turn K.ops d f) ≡ Equal → K.sign (along K.ops d f) ≡ K.sign (along K.ops e f)
-  along_same d e f h long level =
+  turned : (d e : Direction A) → K.sign (turn K.ops e d) ≡ ordering_reverse (K.sign (turn K.ops d e))
+  turned d e = ap K.sign (ring K (d.x ∷ d.y ∷ e.x ∷ e.y ∷ []) (search reads depth 40 fits 50000) (search reads depth 40 fits 50000) tt) ∙ sign_neg K (turn K.ops d e)
+
+  along_turned : (d e : Direction A) → K.sign (along K.ops e d) ≡ K.sign (along K.ops d e)
+  along_turned d e = ap K.sign (ring K (d.x ∷ d.y ∷ e.x ∷ e.y ∷ []) (search reads depth 40 fits 50000) (search reads depth 40 fits 50000) tt)
+
+  -- a direction that leads some way isn't zero
+  not_zero : (d e : Direction A) → IsSameWay K d e → K.sign (along K.ops d d) ≡ Greater
+  not_zero d e h =
+      squares_by K d.x d.y (K.sign d.x) (K.sign d.y) refl refl (λ z.
+      let zero = sign_from K (d.x ∷ d.y ∷ e.x ∷ e.y ∷ []) (known at_zero (search reads depth 40 fits 50000) z.0 (known at_zero (search reads depth 40 fits 50000) z.1 (known any_sign {a = e.x} (search reads depth 40 fits 50000) tt (known any_sign {a = e.y} (search reads depth 40 fits 50000) tt no_sign))))
+      at_zero {a = along K.ops d e} (search reads depth 40 fits 50000) (sum (product (given 0) (given 2)) (product (given 1) (given 3))) tt tt in
+      absurd (let no : Greater ≡ Equal = sym h.1 ∙ zero in cc))
+
+  along_same : (d e f : Direction A) → IsSameWay K d e → K.sign (turn K.ops d f) ≡ Equal → K.sign (along K.ops e f) ≡ K.sign (along K.ops d f)
+  along_same d e f h level =
       let scaled : K.mul (along K.ops d d) (along K.ops e f) ≡ K.mul (along K.ops d e) (along K.ops d f)
       = ring_from K (d.x ∷ d.y ∷ e.x ∷ e.y ∷ f.x ∷ f.y ∷ [])
       (multiple (turn K.ops d e) (search reads depth 40 fits 50000) (search reads depth 40 fits 50000) (search reads depth 40 fits 50000) (K.sign_zero (turn K.ops d f) level) no_equation) (search reads depth 40 fits 50000) (search reads depth 40 fits 50000) tt in
-      sym (sym (sign_of_multiple K (along K.ops d d) (along K.ops e f) long) ∙ ap K.sign scaled ∙ sign_of_multiple K (along K.ops d e) (along K.ops d f) h.1)
+      sym (sign_of_multiple K (along K.ops d d) (along K.ops e f) (not_zero d e h)) ∙ ap K.sign scaled ∙ sign_of_multiple K (along K.ops d e) (along K.ops d f) h.1
+
+  -- where the ways of two directions differ, so do they
+  differ_first : (d e f : Direction A) → IsSameWay K d e → Differ K e f → Differ K d f
+  differ_first d e f h differ level = sym (along_same d e f h level) ∙ differ (turn_same K d e f h ∙ level)
+
+  turned_differ : (d e : Direction A) → Differ K d e → Differ K e d
+  turned_differ d e h level = along_turned d e ∙ h (turned e d ∙ ap ordering_reverse level)
+
+  pub differ_same : (d e f g : Direction A) → IsSameWay K d e → IsSameWay K f g → Differ K e g → Differ K d f
+  differ_same d e f g h k differ =
+      differ_first d e f h (turned_differ f e (differ_first f g e k (turned_differ e g differ)))
+
+  -- the clockwise order of directions is that of their ways
+  pub clockwise_ways : (d e f a b c : Direction A) → IsSameWay K d a → IsSameWay K e b → IsSameWay K f c → IsClockwise K d e f → IsClockwise K a b c
+  clockwise_ways d e f a b c ha hb hc t =
+      clockwise_turned K c a b (clockwise_same K f c a b hc
+      (clockwise_turned K b f a (clockwise_same K e b f a hb
+      (clockwise_turned K a e f (clockwise_same K d a e f ha t)))))
 
   -- ---- the headings of a line in the order of two of its points
 

@@ -11,7 +11,7 @@ use Rattle.face_walks.specs.Rings.{AreOutgoing, half_at, ring_at}
 use Rattle.face_walks.proofs.RingLists.{same_or_not}
 
 -- twins of different half-edges are different
-even_or_odd : (h : ℕ) → ((h % 2 ≡ 0) × (twin_of h ≡ h + 1)) ⊎ ((h % 2 ≡ 1) × (twin_of h ≡ h - 1))
+pub even_or_odd : (h : ℕ) → ((h % 2 ≡ 0) × (twin_of h ≡ h + 1)) ⊎ ((h % 2 ≡ 1) × (twin_of h ≡ h - 1))
 even_or_odd h = grind (arith, eqb_tells (h % 2) 0)
 
 pub twin_twin : (h : ℕ) → twin_of (twin_of h) ≡ h
@@ -139,7 +139,7 @@ module _ (first : Halves (ℕ × ℕ)) (rings : List (List HalfId)) (is_arena : 
     pub turn_back : (k : ℕ) → k < length (ring_at rings v) → next_of old (twin_of (half_at (ring_at rings v) k)) ≡ half_at (ring_at rings v) k
     turn_back k l =
         let at : (piece_at old (twin_of (half_at (ring_at rings v) k))).1 ≡ v
-          = ap (λ (q : ℕ × ℕ). q.1) (same_piece (twin_of (half_at (ring_at rings v) k))) ∙ head_of v k in_range l in
+        = ap (λ (q : ℕ × ℕ). q.1) (same_piece (twin_of (half_at (ring_at rings v) k))) ∙ head_of v k in_range l in
         p.turning (twin_of (half_at (ring_at rings v) k)) (subst (λ (n : ℕ). twin_of (half_at (ring_at rings v) k) < n) (sym as_many) (twin_in v k in_range l)) (omega (arith, at))
         ∙ twin_twin (half_at (ring_at rings v) k)
 
@@ -170,8 +170,8 @@ module _ (first : Halves (ℕ × ℕ)) (rings : List (List HalfId)) (is_arena : 
             let at : piece_at new h ≡ piece_at first h = ap (λ (ps : List (ℕ × ℕ)). get_or ps h (0, 0)) same ∙ same_piece h in
             let high : v + 1 ≤ (piece_at first h).1 = subst (λ (q : ℕ × ℕ). v + 1 ≤ q.1) at far in
             others h (λ k inside e.
-              let low : (piece_at first h).1 ≡ v = ap (λ (g : ℕ). (piece_at first g).1) e ∙ head_of v k in_range inside in
-              omega (arith, low, high))
+            let low : (piece_at first h).1 ≡ v = ap (λ (g : ℕ). (piece_at first g).1) e ∙ head_of v k in_range inside in
+            omega (arith, low, high))
             ∙ p.turning h (omega (arith, l, as_many'))
-              (let old_at : (piece_at old h).1 ≡ (piece_at first h).1 = ap (λ (q : ℕ × ℕ). q.1) (same_piece h) in omega (arith, old_at, high));
+            (let old_at : (piece_at old h).1 ≡ (piece_at first h).1 = ap (λ (q : ℕ × ℕ). q.1) (same_piece h) in omega (arith, old_at, high));
       }

@@ -3,3 +3,4 @@ pub mod Pairs
 pub mod Headings
 pub mod Rings
 pub mod Links
+pub mod Searches

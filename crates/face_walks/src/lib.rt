@@ -2,6 +2,7 @@
 #![tactic(auto)]
 
 mod headings;
+mod joined;
 mod links;
 mod pairs;
 mod rings;

@@ -10,7 +10,7 @@ loop-v-preserved c =
       c.link_ring.ensures.payloads ∙ before.0,
       c.link_ring.ensures.count ∙ before.1,
       lead_more c.args.arena.now c.args.rings.now c.requires.is_arena c.requires.outgoing c.requires.reversed c.requires.turning c.loop-v.arena c.loop-v.v (search rules)
-      before.0 before.1 before.2 c.link_ring.new.arena c.link_ring.ensures.payloads c.link_ring.ensures.count
-      (subst (λ (ring : List HalfId). LeadsRound c.link_ring.new.arena ring (length ring)) c.ring.ensures c.link_ring.ensures.ring)
-      (subst (λ (ring : List HalfId). LeadsElsewhere c.loop-v.arena c.link_ring.new.arena ring) c.ring.ensures c.link_ring.ensures.others),
+          before.0 before.1 before.2 c.link_ring.new.arena c.link_ring.ensures.payloads c.link_ring.ensures.count
+          (subst (λ (ring : List HalfId). LeadsRound c.link_ring.new.arena ring (length ring)) c.ring.ensures c.link_ring.ensures.ring)
+          (subst (λ (ring : List HalfId). LeadsElsewhere c.loop-v.arena c.link_ring.new.arena ring) c.ring.ensures c.link_ring.ensures.others),
     )

@@ -37,10 +37,11 @@ loop-half-preserved g c =
     let from : c.piece-from.result.0 ≡ (piece_at c.args.arena.now c.loop-half.half).0 = ap (λ (p : ℕ × ℕ). p.0) c.piece-from.ensures in
     let vertex : c.piece-from.result.0 < length c.loop-half.rings = omega (arith, in_range, from, c.loop-half.invariant.1) in
     let place : IsPlaceFor g.W.Whole.numbers.ring c.args.headings.now (ring_at c.loop-half.rings c.piece-from.result.0) c.loop-half.half c.place_of-place.result
-      = subst (λ (ring : List HalfId). IsPlaceFor g.W.Whole.numbers.ring c.args.headings.now ring c.loop-half.half c.place_of-place.result) c.ring.ensures c.place_of-place.ensures in
+    = subst (λ (ring : List HalfId). IsPlaceFor g.W.Whole.numbers.ring c.args.headings.now ring c.loop-half.half c.place_of-place.result) c.ring.ensures c.place_of-place.ensures in
     let grown = rings_grown g.W.Whole.numbers.ring c.args.headings.now c.args.arena.now c.loop-half.half c.loop-half.rings c.loop-half.invariant.2
-        (count c.args.arena.now) below c.piece-from.result.0 (sym from) vertex c.requires.differ c.place_of-place.result place in
-    (c.loop-half.invariant.0,
+    (count c.args.arena.now) below c.piece-from.result.0 (sym from) vertex c.requires.differ c.place_of-place.result place in (
+      c.loop-half.invariant.0,
       ap length c.in_ok-insert.ensures ∙ as_many g.W.Whole.numbers.ring c.args.headings.now c.args.arena.now c.loop-half.half c.loop-half.rings c.loop-half.invariant.2
-        (count c.args.arena.now) below c.piece-from.result.0 (sym from) vertex c.requires.differ c.place_of-place.result place ∙ c.loop-half.invariant.1,
-      subst (λ (rings : List (List HalfId)). AreRings g.W.Whole.numbers.ring c.args.headings.now c.args.arena.now (c.loop-half.half + 1) rings) (sym c.in_ok-insert.ensures) grown)
+          (count c.args.arena.now) below c.piece-from.result.0 (sym from) vertex c.requires.differ c.place_of-place.result place ∙ c.loop-half.invariant.1,
+      subst (λ (rings : List (List HalfId)). AreRings g.W.Whole.numbers.ring c.args.headings.now c.args.arena.now (c.loop-half.half + 1) rings) (sym c.in_ok-insert.ensures) grown,
+    )
