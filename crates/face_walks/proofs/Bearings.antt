@@ -90,7 +90,7 @@ module _ {A : Type 0} (K : OrderedRing A) where
   differ_first : (d e f : Direction A) → IsSameWay K d e → Differ K e f → Differ K d f
   differ_first d e f h differ level = sym (along_same d e f h level) ∙ differ (turn_same K d e f h ∙ level)
 
-  turned_differ : (d e : Direction A) → Differ K d e → Differ K e d
+  pub turned_differ : (d e : Direction A) → Differ K d e → Differ K e d
   turned_differ d e h level = along_turned d e ∙ h (turned e d ∙ ap ordering_reverse level)
 
   pub differ_same : (d e f g : Direction A) → IsSameWay K d e → IsSameWay K f g → Differ K e g → Differ K d f

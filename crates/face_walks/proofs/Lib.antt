@@ -6,3 +6,4 @@ pub mod LinkLists
 pub mod Holding
 pub mod Linking
 pub mod SearchLists
+pub mod Outsides

@@ -4,3 +4,4 @@ pub mod Headings
 pub mod Rings
 pub mod Links
 pub mod Searches
+pub mod Outside

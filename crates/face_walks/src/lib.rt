@@ -4,5 +4,6 @@
 mod headings;
 mod joined;
 mod links;
+mod outside;
 mod pairs;
 mod rings;
