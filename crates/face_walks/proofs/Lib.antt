@@ -7,3 +7,5 @@ pub mod Holding
 pub mod Linking
 pub mod SearchLists
 pub mod Outsides
+pub mod CycleWalks
+pub mod CycleLists

@@ -5,3 +5,4 @@ pub mod Rings
 pub mod Links
 pub mod Searches
 pub mod Outside
+pub mod Orders

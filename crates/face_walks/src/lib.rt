@@ -1,6 +1,7 @@
 //! The walks round the faces of a drawing, and round its outside.
 #![tactic(auto)]
 
+mod cycles;
 mod headings;
 mod joined;
 mod links;

@@ -275,7 +275,7 @@ module _ {A : Type 0} (K : OrderedRing A) (vertices : List (Point A)) (edges : L
   not_again : (p : Pair) (xs : List Pair) → IsOnce (p ∷ xs) → ¬ Contains xs p
   not_again p xs h i = h 0 (suc i.0) p (omega arith) (omega (arith, i.1)) (sym i.2)
 
-  same_from : (c d : List ℕ) (p : Pair) (xs ys : List Pair) → IsWalk K vertices edges c → IsWalk K vertices edges d
+  pub same_from : (c d : List ℕ) (p : Pair) (xs ys : List Pair) → IsWalk K vertices edges c → IsWalk K vertices edges d
       → pieces_round c ≡ p ∷ xs → pieces_round d ≡ p ∷ ys → c ≡ d
   same_from c d p xs ys w z e f =
       let rest : xs ≡ ys

@@ -13,10 +13,10 @@ loop-half-preserved g c =
       | then-turns_from w ↦
           subst (λ (h : HalfId). IsFirstFrom g.W.Whole.numbers.ring c.args.headings.now (direction_of c.args.from) c.args.ring.now (c.loop-half.half-index + 1) h.0) (sym w.first-is)
           (first_taken g.W.Whole.numbers.ring c.args.headings.now (direction_of c.args.from) c.args.ring.now c.requires.differ c.requires.apart
-            c.loop-half.half-index c.loop-half.first.0 c.loop-half.invariant inside (c.turns_from.ensures.0 w.if-turns_from.true))
+          c.loop-half.half-index c.loop-half.first.0 c.loop-half.invariant inside (c.turns_from.ensures.0 w.if-turns_from.true))
       | else-turns_from w ↦
           subst (λ (h : HalfId). IsFirstFrom g.W.Whole.numbers.ring c.args.headings.now (direction_of c.args.from) c.args.ring.now (c.loop-half.half-index + 1) h.0) (sym w.first-is)
           (first_kept g.W.Whole.numbers.ring c.args.headings.now (direction_of c.args.from) c.args.ring.now c.requires.differ c.requires.apart
-            c.loop-half.half-index c.loop-half.first.0 c.loop-half.invariant inside
-            (λ t. let no : true ≡ false = sym (c.turns_from.ensures.1 t) ∙ w.if-turns_from.false in cc))
+          c.loop-half.half-index c.loop-half.first.0 c.loop-half.invariant inside
+          (λ t. let no : true ≡ false = sym (c.turns_from.ensures.1 t) ∙ w.if-turns_from.false in cc))
     ]
