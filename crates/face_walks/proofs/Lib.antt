@@ -9,3 +9,4 @@ pub mod SearchLists
 pub mod Outsides
 pub mod CycleWalks
 pub mod CycleLists
+pub mod Finding

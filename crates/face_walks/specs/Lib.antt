@@ -6,3 +6,4 @@ pub mod Links
 pub mod Searches
 pub mod Outside
 pub mod Orders
+pub mod Found
