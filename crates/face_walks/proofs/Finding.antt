@@ -204,8 +204,8 @@ module _ (arena : Halves (ℕ × ℕ)) (order : List Entry) (outside : ℕ) wher
       last_sorted j l =
           let old = f.earlier j l in
           let not : ¬ (piece_order (piece_at arena (slice_index f.begins j)) (piece_at arena (half_in order n)) ≡ Greater)
-            = subst (λ (x : ℕ). ¬ (piece_order (piece_at arena x) (piece_at arena (half_in order n)) ≡ Greater)) old.1.3
-              (ordered.sorted old.1.0 n (let m = old.1.1 in omega arith) inside) in
+          = subst (λ (x : ℕ). ¬ (piece_order (piece_at arena x) (piece_at arena (half_in order n)) ≡ Greater)) old.1.3
+          (ordered.sorted old.1.0 n (let m = old.1.1 in omega arith) inside) in
           less_by (piece_at arena (slice_index f.begins j)) (piece_at arena (half_in order n))
           (piece_order (piece_at arena (slice_index f.begins j)) (piece_at arena (half_in order n))) refl not
           (λ e. new (subst (λ (x : ℕ). is_seen seen x ≡ true) (once (slice_index f.begins j) (half_in order n) (within (slice_index f.begins j) old.0) below e) old.0))
@@ -220,11 +220,18 @@ module _ (arena : Halves (ℕ × ℕ)) (order : List Entry) (outside : ℕ) wher
             long = length-append f.begins (half_in order n ∷ []) ∙ ap (λ (m : ℕ). m + 1) f.long ∙ sym longer;
             face = λ k l. elim (below_or k (length faces) (subst (λ (m : ℕ). k < m) longer l)) [
               | inl b ↦
-                  let old = f.face k b in
-                  (old.0, subst (λ (cs : List ℕ). IsFrom arena cs (slice_index begins' k) old.0) (sym (old_face k b))
-                    (subst (λ (x : ℕ). IsFrom arena (corners_in faces k) x old.0) (sym (old_begin k b)) old.1), old.2)
-              | inr e ↦ (w.cycle, subst (λ (i : ℕ). IsFrom arena (corners_in grown i) (slice_index begins' i) w.cycle) (sym e)
-                  (subst (λ (x : ℕ). IsFrom arena (corners_in grown (length faces)) x w.cycle) (sym new_begin) (from_here (corners_in grown (length faces)) new_face)), lacks)
+                  let old = f.face k b in (
+                    old.0,
+                    subst (λ (cs : List ℕ). IsFrom arena cs (slice_index begins' k) old.0) (sym (old_face k b))
+                        (subst (λ (x : ℕ). IsFrom arena (corners_in faces k) x old.0) (sym (old_begin k b)) old.1),
+                    old.2,
+                  )
+              | inr e ↦ (
+                w.cycle,
+                subst (λ (i : ℕ). IsFrom arena (corners_in grown i) (slice_index begins' i) w.cycle) (sym e)
+                    (subst (λ (x : ℕ). IsFrom arena (corners_in grown (length faces)) x w.cycle) (sym new_begin) (from_here (corners_in grown (length faces)) new_face)),
+                lacks,
+              )
             ];
             sorted = λ j k a b. elim (below_or k (length faces) (subst (λ (m : ℕ). k < m) longer b)) [
               | inl l ↦

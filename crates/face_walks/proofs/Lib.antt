@@ -10,3 +10,4 @@ pub mod Outsides
 pub mod CycleWalks
 pub mod CycleLists
 pub mod Finding
+pub mod Facing

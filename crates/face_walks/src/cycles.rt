@@ -1,6 +1,8 @@
 ghost use Rattle.std.specs.Prelude.{◌≡◌, ℕ, ◌<◌, ◌↔◌, length, replicate, false, [], Contains, IfOk, IsTrue, OnOk, ◌∷◌, ◌++◌, MatchBool};
 ghost use Rattle.half_edges.specs.Cycles.{ids};
 ghost use Rattle.half_edges.specs.Halves.{count};
+ghost use Rattle.face_walks.specs.Found.{AreCycles};
+ghost use Rattle.face_walks.specs.Linked.{piece_at};
 ghost use Rattle.face_walks.specs.Orders.{AreInOrder, AreMarked, IsWalkFound, corners_of};
 
 use crate::pairs::piece;
@@ -108,4 +110,30 @@ impl Found {
         let face = face_of(alloc, arena, cycle.as_slice())?;
         self.keep(face, holds(cycle.as_slice(), outside))
     }
+}
+
+/// The cycles of the arena as walks, each begun at its least directed piece and in the order of these, and apart from them the
+/// one of the half-edge outside.
+pub fn cycles_of(
+    alloc: Global,
+    arena: &Arena<(u32, u32)>,
+    outside: HalfId,
+) -> Result<(List<Face>, Face), AllocError>
+    requires outside { outside.0 < count arena.now }
+    requires once { (g h : ℕ) → g < count arena.now → h < count arena.now → piece_at arena.now g ≡ piece_at arena.now h → g ≡ h }
+    ensures { IfOk result (λ found. AreCycles arena.now outside.0 found.0 found.1.corners) }
+{
+    let order = in_order(alloc, arena)?;
+    let mut found = Found::none(alloc, arena.len() as usize)?;
+    for (_, half) in order.as_slice() {
+        if !found.seen[*half as usize] {
+            found.find(alloc, arena, HalfId(*half), outside)?;
+        }
+    }
+    let Found {
+        faces,
+        outer,
+        seen: _,
+    } = found;
+    Ok((faces, outer))
 }
