@@ -1,6 +1,7 @@
 //! The walks round the faces of a drawing, and round its outside.
 #![tactic(auto)]
 
+mod answer;
 mod cycles;
 mod headings;
 mod joined;
@@ -8,3 +9,5 @@ mod links;
 mod outside;
 mod pairs;
 mod rings;
+
+pub use answer::{WalkFault, Walks};
