@@ -97,6 +97,15 @@ module _ {A : Type 0} (K : OrderedRing A) where
   differ_same d e f g h k differ =
       differ_first d e f h (turned_differ f e (differ_first f g e k (turned_differ e g differ)))
 
+  pub differ_last : (d e f : Direction A) → IsSameWay K e f → Differ K d f → Differ K d e
+  differ_last d e f h differ = turned_differ e d (differ_first e f d h (turned_differ d f differ))
+
+  pub clockwise_from : (d e f b c : Direction A) → IsSameWay K e b → IsSameWay K f c → IsClockwise K d e f → IsClockwise K d b c
+  clockwise_from d e f b c hb hc t =
+      clockwise_turned K c d b (clockwise_same K f c d b hc
+      (clockwise_turned K b f d (clockwise_same K e b f d hb
+      (clockwise_turned K d e f t))))
+
   -- the clockwise order of directions is that of their ways
   pub clockwise_ways : (d e f a b c : Direction A) → IsSameWay K d a → IsSameWay K e b → IsSameWay K f c → IsClockwise K d e f → IsClockwise K a b c
   clockwise_ways d e f a b c ha hb hc t =

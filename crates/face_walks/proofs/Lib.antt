@@ -11,3 +11,5 @@ pub mod CycleWalks
 pub mod CycleLists
 pub mod Finding
 pub mod Facing
+pub mod Assembling
+pub mod Walked

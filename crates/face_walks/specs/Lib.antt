@@ -7,3 +7,4 @@ pub mod Searches
 pub mod Outside
 pub mod Orders
 pub mod Found
+pub mod Made

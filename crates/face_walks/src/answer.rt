@@ -20,6 +20,11 @@ pub enum WalkFault {
 }
 
 impl From<AllocError> for WalkFault {
+    ghost use Rattle.std.specs.Prelude.{◌≡◌};
+    ghost use Rattle.face_walks.specs.declared.answer.WalkFault.TheVariants.{Memory};
+
+    ghost from_gives = { λ error fault. fault ≡ Memory error };
+
     fn from(error: AllocError) -> WalkFault {
         WalkFault::Memory(error)
     }

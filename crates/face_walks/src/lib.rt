@@ -9,5 +9,7 @@ mod links;
 mod outside;
 mod pairs;
 mod rings;
+mod walking;
 
 pub use answer::{WalkFault, Walks};
+pub use walking::walks;

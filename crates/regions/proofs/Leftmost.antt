@@ -60,7 +60,7 @@ neighbours u (e ∷ es) =
 
 module _ {A : Type 0} (K : OrderedRing A) where
   -- a direction that leads right, or straight up, differs from the west
-  not_westwards : (d : Direction A) → (K.sign d.x ≡ Greater) ⊎ ((K.sign d.x ≡ Equal) × (K.sign d.y ≡ Greater)) → Differ K (west K.ops) d
+  pub not_westwards : (d : Direction A) → (K.sign d.x ≡ Greater) ⊎ ((K.sign d.x ≡ Equal) × (K.sign d.y ≡ Greater)) → Differ K (west K.ops) d
   not_westwards d (inl h) level =
       sign_from K (d.x ∷ d.y ∷ []) (known positive (search reads depth 40 fits 50000) h no_sign) negative (search reads depth 40 fits 50000) (negated (given 0)) tt tt
   not_westwards d (inr h) level =
