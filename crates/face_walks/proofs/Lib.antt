@@ -13,3 +13,4 @@ pub mod Finding
 pub mod Facing
 pub mod Assembling
 pub mod Walked
+pub mod Ends
