@@ -1,11 +1,10 @@
 -- What the parts of a drawing's walks have, from how they are made.
-use Rattle.std.proofs.Common.{◌≡◌, ◌⊎◌, inl, inr, ℕ, ◌+◌, ◌*◌, ◌<◌, ◌≤◌, List, [], ◌∷◌, length, get_or, refl, sym, ap, subst, ◌∙◌, arith}
-use Rattle.std.specs.Prelude.{ℤ, Contains, slice_index_or}
-use Rattle.algebra.specs.OrderedRing.{OrderedRing}
+use Rattle.std.proofs.Common.{◌≡◌, inl, inr, ℕ, ◌<◌, List, length, refl, sym, ap, subst, ◌∙◌, arith}
+use Rattle.std.specs.Prelude.{ℤ}
 use Rattle.algebra.specs.Surd.{Surd}
 use Rattle.algebra.specs.WholeSurds.{SurdNumbers}
 use Rattle.plane.specs.declared.point.Point.{Point}
-use Rattle.plane.specs.Directions.{Differ, Direction, IsClockwise, IsSameWay, west}
+use Rattle.plane.specs.Directions.{Differ, IsClockwise, IsSameWay, west}
 use Rattle.scaled_plane.specs.declared.drawing.Drawing.{Drawing}
 use Rattle.scaled_plane.specs.declared.drawing.Edge.{Edge}
 use Rattle.scaled_plane.specs.Lists.{IsReached, begun, gone_on}
@@ -26,7 +25,6 @@ use Rattle.face_walks.specs.Searches.{IsFirstUnreached, IsReachedFrom, Leads}
 use Rattle.face_walks.proofs.Bearings.{clockwise_from, differ_last}
 use Rattle.face_walks.proofs.Holding.{holds}
 use Rattle.face_walks.proofs.Linking.{AreLed, halves_differ, led_ways, outgoing}
-use Rattle.face_walks.proofs.RingLists.{same_or_not}
 use Rattle.face_walks.proofs.Settled.{plane}
 
 abbrev Piece : Type 0

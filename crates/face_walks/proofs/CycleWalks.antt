@@ -1,5 +1,5 @@
 -- The cycles of a linked arena are the walks of its drawing.
-use Rattle.std.proofs.Common.{◌≡◌, ◌⊎◌, inl, inr, ℕ, zero, suc, ◌+◌, ◌-◌, ◌<◌, ◌≤◌, List, [], ◌∷◌, ◌++◌, Bool, true, false, length, get_or, map, refl, sym, ap, subst, ◌∙◌, arith}
+use Rattle.std.proofs.Common.{◌≡◌, ◌⊎◌, inl, inr, ℕ, suc, ◌+◌, ◌-◌, ◌<◌, List, [], ◌∷◌, ◌++◌, Bool, true, length, get_or, map, refl, sym, ap, subst, ◌∙◌, arith}
 use Rattle.std.specs.Prelude.{AllPairs, Contains, slice_index}
 use Rattle.std.proofs.lemmas.List.{get_or-map, get_or_default, length-map}
 use Rattle.algebra.specs.OrderedRing.{OrderedRing}
@@ -9,7 +9,7 @@ use Rattle.scaled_plane.specs.declared.drawing.Edge.{Edge}
 use Rattle.scaled_plane.specs.Walks.{FollowOn, FollowRound, Follows, IsWalk, pieces_on_to, pieces_round}
 use Rattle.half_edges.specs.Cycles.{IsCycle}
 use Rattle.half_edges.specs.Halves.{Halves, IsArena, count, next_of}
-use Rattle.face_walks.specs.Linked.{HoldsPieces, IsLinked, piece_at}
+use Rattle.face_walks.specs.Linked.{IsLinked, piece_at}
 use Rattle.face_walks.specs.Searches.{is_seen}
 
 abbrev pub Piece : Type 0

@@ -1,5 +1,5 @@
 -- Drawings without vertices, and what the walks of others say of regions.
-use Rattle.std.proofs.Common.{◌≡◌, ◌⊎◌, inl, inr, ℕ, suc, ◌<◌, ◌≤◌, List, [], ◌∷◌, length, refl, sym, ap, subst, ◌∙◌, arith}
+use Rattle.std.proofs.Common.{◌≡◌, ℕ, ◌<◌, List, [], ◌∷◌, length, refl, sym, ap, subst, ◌∙◌, arith}
 use Rattle.std.specs.Prelude.{ℤ, Contains, Err, IfOk, Ok, OnOk, Result}
 use Rattle.algebra.specs.Surd.{Surd}
 use Rattle.algebra.specs.WholeSurds.{SurdNumbers}
@@ -16,7 +16,7 @@ use Rattle.regions.specs.Faces.{AreBoundedRegions, FacesAreBounded, IsConnected,
 use Rattle.regions.proofs.Bounded.{bounded_faces, listed_faces, regions_of_walks}
 use Rattle.regions.proofs.Empty.{no_walk, one_region_unbounded}
 use Rattle.regions.proofs.Pieces.{bounded_of, place}
-use Rattle.half_edges.specs.Halves.{Halves, IsArena}
+use Rattle.half_edges.specs.Halves.{Halves}
 use Rattle.face_walks.specs.Linked.{IsLinked}
 use Rattle.face_walks.proofs.Facing.{sorted_by_places}
 use Rattle.face_walks.proofs.Settled.{plane}

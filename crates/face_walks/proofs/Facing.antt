@@ -1,5 +1,5 @@
 -- The cycles of a linked arena are the faces of its drawing, and its outer walk.
-use Rattle.std.proofs.Common.{◌≡◌, ◌⊎◌, inl, inr, ℕ, zero, suc, ◌+◌, ◌<◌, ◌≤◌, List, [], ◌∷◌, ◌++◌, length, get_or, refl, sym, ap, subst, ◌∙◌, arith}
+use Rattle.std.proofs.Common.{◌≡◌, inl, inr, ℕ, suc, ◌<◌, List, [], ◌∷◌, length, refl, sym, ap, subst, ◌∙◌, arith}
 use Rattle.std.specs.Prelude.{Contains, IsTrue, slice_index, slice_index_or}
 use Rattle.std.specs.Cmp.Lexicographic.{slice_cmp}
 use Rattle.std.specs.List.{AllByRecursion}
@@ -17,16 +17,15 @@ use Rattle.plane.proofs.Order.{order_turned}
 use Rattle.plane.proofs.Turning.{clockwise_once}
 use Rattle.scaled_plane.specs.declared.drawing.Edge.{Edge}
 use Rattle.scaled_plane.specs.declared.drawing.Face.{Face}
-use Rattle.scaled_plane.specs.Lists.{IsRotation}
 use Rattle.scaled_plane.specs.Pieces.{point_at}
-use Rattle.scaled_plane.specs.Walks.{AreFaces, Follows, FollowRound, HasOutside, IsDirectedPiece, IsFaceWalk, IsLeastRotation, IsOuterWalk, IsOutside, IsWalk, pieces_round, way}
+use Rattle.scaled_plane.specs.Walks.{AreFaces, FollowRound, HasOutside, IsDirectedPiece, IsFaceWalk, IsLeastRotation, IsOuterWalk, IsOutside, IsWalk, pieces_round, way}
 use Rattle.regions.specs.Faces.{IsOfWalk, IsPlane}
 use Rattle.regions.proofs.Outer.{other_end}
 use Rattle.regions.proofs.Rotations.{of_rotated, one_least, one_walk_round, rotated_back, rotated_walk, same_from}
 use Rattle.half_edges.specs.Halves.{Halves, count}
-use Rattle.face_walks.specs.Found.{AreCycles, IsFrom, IsOnCycle, corners_in}
+use Rattle.face_walks.specs.Found.{AreCycles, IsFrom, corners_in}
 use Rattle.face_walks.specs.Linked.{IsLinked, piece_at}
-use Rattle.face_walks.specs.Orders.{corners_of, piece_order}
+use Rattle.face_walks.specs.Orders.{piece_order}
 use Rattle.face_walks.proofs.CycleWalks.{cycle_walk, cycle_within, first_piece, half_of, piece_in}
 use Rattle.face_walks.proofs.Finding.{equal_pieces}
 use Rattle.face_walks.proofs.RingLists.{same_or_not}

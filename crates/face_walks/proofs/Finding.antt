@@ -1,22 +1,20 @@
 -- Walks that are found one after another, from the half-edge with the least directed piece on.
-use Rattle.std.proofs.Common.{◌≡◌, ◌⊎◌, inl, inr, ℕ, zero, suc, ◌+◌, ◌-◌, ◌<◌, ◌≤◌, List, [], ◌∷◌, ◌++◌, Bool, true, false, length, get_or, replicate, refl, sym, ap, subst, ◌∙◌, arith}
-use Rattle.std.specs.Prelude.{Contains, slice_index, slice_index_or}
-use Rattle.std.specs.Ordering.{nat_cmp, ordering_then}
+use Rattle.std.proofs.Common.{◌≡◌, ◌⊎◌, inl, inr, ℕ, ◌+◌, ◌<◌, ◌≤◌, List, [], ◌∷◌, ◌++◌, Bool, true, false, length, replicate, refl, sym, ap, subst, ◌∙◌, arith}
+use Rattle.std.specs.Prelude.{Contains, slice_index}
+use Rattle.std.specs.Ordering.{nat_cmp}
 use Rattle.std.specs.declared.cmp.Ordering.{Ordering}
 use Rattle.std.specs.declared.cmp.Ordering.TheVariants.{Less, Equal, Greater}
 use Rattle.std.proofs.lemmas.Cmp.{ranked}
 use Rattle.std.proofs.lemmas.List.{get_or_append_left, get_or_default, get_or_push, get_or-replicate, get_or_past, length-append, length-replicate}
 use Rattle.plane.proofs.Order.{both_equal}
 use Rattle.scaled_plane.specs.declared.drawing.Face.{Face}
-use Rattle.half_edges.specs.Cycles.{IsCycle}
 use Rattle.half_edges.specs.Halves.{Halves, IsArena, count, next_of}
 use Rattle.face_walks.specs.Found.{AreCycles, IsFrom, IsOnCycle, corners_in}
 use Rattle.face_walks.specs.Linked.{piece_at}
-use Rattle.face_walks.specs.Orders.{AreInOrder, AreMarked, IsWalkFound, corners_of, half_in, piece_order}
+use Rattle.face_walks.specs.Orders.{AreInOrder, IsWalkFound, corners_of, half_in, piece_order}
 use Rattle.face_walks.specs.Searches.{is_seen}
 use Rattle.face_walks.proofs.CycleLists.{in_seen}
 use Rattle.face_walks.proofs.CycleWalks.{cycle_closed, cycle_unseen, cycle_within}
-use Rattle.face_walks.proofs.RingLists.{same_or_not}
 
 abbrev Entry : Type 0
 Entry = (ℕ × ℕ) × ℕ

@@ -1,5 +1,5 @@
 -- Headings of one more edge.
-use Rattle.std.proofs.Common.{◌≡◌, ◌⊎◌, inl, inr, ℕ, suc, zero, ◌+◌, ◌*◌, ◌<◌, ◌≤◌, List, [], ◌∷◌, ◌++◌, length, refl, sym, ap, subst, ◌∙◌, arith}
+use Rattle.std.proofs.Common.{◌≡◌, ◌⊎◌, inl, inr, ℕ, suc, zero, ◌+◌, ◌*◌, ◌<◌, List, [], ◌∷◌, ◌++◌, length, refl, sym, ap, subst, ◌∙◌, arith}
 use Rattle.std.specs.Prelude.{ℤ, pos, slice_index_or}
 use Rattle.std.specs.List.{AllZip}
 use Rattle.std.proofs.lemmas.List.{length-append, get_or_append_left, get_or_push}
@@ -8,7 +8,6 @@ use Rattle.algebra.specs.Surd.{Surd}
 use Rattle.algebra.specs.WholeSurds.{SurdNumbers}
 use Rattle.plane.specs.Directions.{Direction, IsSameWay}
 use Rattle.scaled_plane.specs.declared.drawing.Drawing.{Drawing}
-use Rattle.scaled_plane.specs.declared.drawing.Edge.{Edge}
 use Rattle.face_walks.specs.declared.headings.Heading.{Heading}
 use Rattle.face_walks.specs.Pairs.{edge_at}
 use Rattle.face_walks.specs.Headings.{AreHeadings, IsHeadingSize, direction_of, lead, edge_way}

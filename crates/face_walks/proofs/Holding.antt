@@ -1,8 +1,7 @@
 -- An arena with a pair of half-edges for each edge of a plane drawing holds each directed piece once.
-use Rattle.std.proofs.Common.{◌≡◌, ◌⊎◌, inl, inr, ℕ, ◌+◌, ◌*◌, ◌/◌, ◌%◌, ◌<◌, ◌≤◌, List, length, get_or, refl, sym, ap, subst, ◌∙◌, arith}
+use Rattle.std.proofs.Common.{◌≡◌, ◌⊎◌, inl, inr, ℕ, ◌+◌, ◌*◌, ◌/◌, ◌%◌, ◌<◌, List, length, refl, sym, ap, subst, ◌∙◌, arith}
 use lib.IntN.{pos}
-use Rattle.std.specs.Prelude.{Contains, AllPairs, slice_index_or}
-use Rattle.std.specs.declared.cmp.Ordering.TheVariants.{Greater}
+use Rattle.std.specs.Prelude.{Contains}
 use Rattle.std.proofs.lemmas.List.{get_or_default}
 use Rattle.std.proofs.lemmas.List.Elements.{Contains-get_or}
 use Rattle.fold_base.specs.declared.letter.Letter.TheVariants.{Border}
@@ -18,11 +17,10 @@ use Rattle.scaled_plane.specs.Walks.{IsDirectedPiece}
 use Rattle.regions.specs.Faces.{IsPlane, place}
 use Rattle.regions.proofs.InnerPoints.{inner_not_first, inner_not_second}
 use Rattle.regions.proofs.Pieces.{same_vertex, vertex_point}
-use Rattle.half_edges.specs.Halves.{Halves, IsArena, count, twin_of}
+use Rattle.half_edges.specs.Halves.{Halves, count, twin_of}
 use Rattle.face_walks.specs.Linked.{HoldsPieces, piece_at, reverse_of}
 use Rattle.face_walks.specs.Pairs.{ArePairs, edge_at}
 use Rattle.face_walks.proofs.LinkLists.{even_or_odd}
-use Rattle.face_walks.proofs.RingLists.{same_or_not}
 
 abbrev pub Piece : Type 0
 Piece = ℕ × ℕ

@@ -1,5 +1,5 @@
 -- A ring that is led on from half-edge to half-edge, one more at a time.
-use Rattle.std.proofs.Common.{◌≡◌, ◌⊎◌, inl, inr, ℕ, ◌+◌, ◌-◌, ◌<◌, ◌≤◌, ◌%◌, List, length, get_or, refl, sym, ap, subst, ◌∙◌, arith, true, false}
+use Rattle.std.proofs.Common.{◌≡◌, ◌⊎◌, inl, inr, ℕ, ◌+◌, ◌-◌, ◌<◌, ◌≤◌, ◌%◌, List, length, get_or, refl, sym, ap, subst, ◌∙◌, arith}
 use Rattle.std.specs.List.{swap}
 use Rattle.std.proofs.lemmas.List.Edits.{length-swap, swapped_from_swap, Swapped}
 use Rattle.std.proofs.lemmas.Bool.Decides.{eqb_tells}
@@ -8,7 +8,6 @@ use Rattle.half_edges.specs.Halves.{Halves, IsArena, count, next_of, twin_of}
 use Rattle.face_walks.specs.Links.{LeadRound, LeadsElsewhere, LeadsRound}
 use Rattle.face_walks.specs.Linked.{piece_at, reverse_of}
 use Rattle.face_walks.specs.Rings.{AreOutgoing, half_at, ring_at}
-use Rattle.face_walks.proofs.RingLists.{same_or_not}
 
 -- twins of different half-edges are different
 pub even_or_odd : (h : ℕ) → ((h % 2 ≡ 0) × (twin_of h ≡ h + 1)) ⊎ ((h % 2 ≡ 1) × (twin_of h ≡ h - 1))

@@ -1,17 +1,15 @@
 -- Half-edges that are led on round the rings of vertices follow each other as directed pieces do.
-use Rattle.std.proofs.Common.{◌≡◌, ◌⊎◌, inl, inr, ℕ, ◌+◌, ◌-◌, ◌*◌, ◌<◌, ◌≤◌, List, length, get_or, refl, sym, ap, subst, ◌∙◌, arith}
+use Rattle.std.proofs.Common.{◌≡◌, ◌⊎◌, inl, inr, ℕ, ◌+◌, ◌-◌, ◌*◌, ◌<◌, List, length, get_or, refl, sym, ap, subst, ◌∙◌, arith}
 use Rattle.std.specs.Prelude.{ℤ}
 use Rattle.algebra.specs.OrderedRing.{OrderedRing}
 use Rattle.algebra.specs.Surd.{Surd}
 use Rattle.algebra.specs.WholeSurds.{SurdNumbers}
-use Rattle.plane.specs.declared.point.Point.{Point}
 use Rattle.plane.specs.Directions.{Differ, Direction, IsClockwise, IsSameWay}
 use Rattle.plane.proofs.Turning.{clockwise_chain, clockwise_turned}
 use Rattle.scaled_plane.specs.declared.drawing.Drawing.{Drawing}
 use Rattle.scaled_plane.specs.declared.drawing.Edge.{Edge}
 use Rattle.scaled_plane.specs.WellSet.{IsWellSet}
-use Rattle.scaled_plane.specs.Walks.{ComesAfter, Follows, IsDirectedPiece, IsFirstClockwise, way}
-use Rattle.regions.specs.Faces.{IsPlane}
+use Rattle.scaled_plane.specs.Walks.{ComesAfter, Follows, IsDirectedPiece, way}
 use Rattle.regions.proofs.Leftmost.{neighbours_differ}
 use Rattle.regions.proofs.Outer.{in_range}
 use Rattle.half_edges.specs.declared.arena.HalfId.{HalfId}
@@ -25,7 +23,6 @@ use Rattle.face_walks.specs.Rings.{AreOutgoing, AreRings, HasHalf, IsRing, Turns
 use Rattle.face_walks.proofs.Bearings.{clockwise_ways, differ_same}
 use Rattle.face_walks.proofs.Holding.{half_cases}
 use Rattle.face_walks.proofs.LinkLists.{twin_twin, twin_within}
-use Rattle.face_walks.proofs.RingLists.{same_or_not}
 use Rattle.face_walks.proofs.Settled.{plane}
 
 abbrev Piece : Type 0

@@ -1,5 +1,5 @@
 -- The least of some points, and the first of some half-edges clockwise from a direction.
-use Rattle.std.proofs.Common.{◌≡◌, ◌⊎◌, inl, inr, ℕ, ◌+◌, ◌<◌, ◌≤◌, List, length, refl, sym, ap, subst, ◌∙◌, arith}
+use Rattle.std.proofs.Common.{◌≡◌, ◌⊎◌, inl, inr, ℕ, ◌+◌, ◌<◌, List, length, refl, sym, ap, subst, ◌∙◌, arith}
 use Rattle.std.specs.Prelude.{AllPairs}
 use Rattle.std.specs.Ordering.{ordering_reverse}
 use Rattle.std.specs.declared.cmp.Ordering.{Ordering}
@@ -17,7 +17,7 @@ use Rattle.half_edges.specs.declared.arena.HalfId.{HalfId}
 use Rattle.face_walks.specs.declared.headings.Heading.{Heading}
 use Rattle.face_walks.specs.Headings.{lead}
 use Rattle.face_walks.specs.Outside.{IsFirstFrom, IsLeastPoint}
-use Rattle.face_walks.specs.Rings.{HasHalf, half_at}
+use Rattle.face_walks.specs.Rings.{half_at}
 use Rattle.face_walks.proofs.Bearings.{turned_differ}
 use Rattle.face_walks.proofs.RingLists.{same_or_not}
 

@@ -1,11 +1,11 @@
 -- A half-edge put at its place into a ring.
-use Rattle.std.proofs.Common.{◌≡◌, ◌⊎◌, inl, inr, ℕ, zero, suc, ◌+◌, ◌-◌, ◌<◌, ◌≤◌, List, [], ◌∷◌, length, refl, sym, ap, subst, ◌∙◌, arith}
-use Rattle.std.specs.Prelude.{slice_index_or, slice_set}
+use Rattle.std.proofs.Common.{◌≡◌, ◌⊎◌, inl, inr, ℕ, ◌+◌, ◌-◌, ◌<◌, ◌≤◌, List, [], length, sym, ap, subst, ◌∙◌, arith}
+use Rattle.std.specs.Prelude.{slice_set}
 use Rattle.std.specs.List.{insert}
 use Rattle.std.proofs.lemmas.List.{get_or-set_same, get_or-set_other, length-set}
 use Rattle.std.proofs.lemmas.List.Edits.{length-insert, get_or-insert_below, get_or-insert_at, get_or-insert_above}
 use Rattle.algebra.specs.OrderedRing.{OrderedRing}
-use Rattle.plane.specs.Directions.{Differ, IsClockwise}
+use Rattle.plane.specs.Directions.{Differ}
 use Rattle.plane.proofs.Around.{clockwise_either}
 use Rattle.plane.proofs.Turning.{clockwise_chain}
 use Rattle.half_edges.specs.declared.arena.HalfId.{HalfId}

@@ -1,16 +1,16 @@
 -- A search that finds one more vertex.
-use Rattle.std.proofs.Common.{◌≡◌, ◌⊎◌, inl, inr, ℕ, zero, suc, ◌+◌, ◌-◌, ◌<◌, ◌≤◌, List, [], ◌∷◌, ◌++◌, Bool, true, false, length, get_or, replicate, refl, sym, ap, subst, ◌∙◌, arith}
-use Rattle.std.specs.Prelude.{All, AllPairs, Contains, MatchOption, None, Option, Some, slice_set, slice_index}
+use Rattle.std.proofs.Common.{◌≡◌, ◌⊎◌, inl, inr, ℕ, ◌+◌, ◌<◌, ◌≤◌, List, [], ◌∷◌, ◌++◌, Bool, true, false, length, get_or, replicate, refl, sym, ap, subst, ◌∙◌, arith}
+use Rattle.std.specs.Prelude.{Contains, MatchOption, None, Option, Some, slice_set, slice_index}
 use Rattle.std.proofs.lemmas.List.{length-append, length-set, get_or-set_same, get_or-set_other, get_or_append_left, get_or_default, get_or-replicate, get_or_past, length-replicate}
 use Rattle.std.proofs.lemmas.List.Elements.{All-push, All-contains, Contains-append_left, Contains-push, Contains-push_cases}
 use Rattle.std.proofs.lemmas.List.Quantifiers.{all_pairs_push}
 use Rattle.half_edges.specs.Halves.{Halves, count}
 use Rattle.half_edges.proofs.Paths.{few_apart}
-use Rattle.scaled_plane.specs.Lists.{IsReached, begun, gone_on}
+use Rattle.scaled_plane.specs.Lists.{begun, gone_on}
 use Rattle.face_walks.specs.Linked.{piece_at}
 use Rattle.half_edges.specs.declared.arena.HalfId.{HalfId}
 use Rattle.face_walks.specs.Rings.{AreOutgoing, HasHalf, half_at, ring_at}
-use Rattle.face_walks.specs.Searches.{Finds, GoesOn, IsFirstUnreached, IsReachedFrom, IsSearch, Leads, is_seen}
+use Rattle.face_walks.specs.Searches.{Finds, GoesOn, IsFirstUnreached, IsReachedFrom, IsSearch, is_seen}
 use Rattle.face_walks.proofs.RingLists.{same_or_not}
 
 pub goes_on_itself : (found : List ℕ) → GoesOn found found

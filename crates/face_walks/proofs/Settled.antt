@@ -1,10 +1,10 @@
 -- What a well set drawing has.
-use Rattle.std.proofs.Common.{◌≡◌, ℕ, ◌<◌, length, sym, subst}
-use Rattle.std.specs.Prelude.{ℤ, Contains, slice_index_or}
+use Rattle.std.proofs.Common.{ℕ, ◌<◌, length}
+use Rattle.std.specs.Prelude.{ℤ, Contains}
 use Rattle.std.proofs.lemmas.List.{get_or_default}
 use Rattle.algebra.specs.Surd.{Surd}
 use Rattle.algebra.specs.WholeSurds.{SurdNumbers}
-use Rattle.plane.specs.Points.{IsPoint, IsSamePoint, origin}
+use Rattle.plane.specs.Points.{IsSamePoint, origin}
 use Rattle.scaled_plane.specs.Drawn.{IsDrawn}
 use Rattle.scaled_plane.specs.declared.drawing.Drawing.{Drawing}
 use Rattle.scaled_plane.specs.declared.drawing.Edge.{Edge}

@@ -4,7 +4,7 @@ use Rattle.algebra.specs.Surd.{Surd}
 use Rattle.algebra.specs.WholeSurds.{SurdNumbers}
 use Rattle.algebra.specs.OrderedRing.{OrderedRing}
 use Rattle.exact_number.specs.Sizes.{whole_size}
-use Rattle.plane.specs.Directions.{Direction, Differ, IsSameWay}
+use Rattle.plane.specs.Directions.{Direction, IsSameWay}
 use Rattle.scaled_plane.specs.declared.drawing.Drawing.{Drawing}
 use Rattle.scaled_plane.specs.Walks.{way}
 use Rattle.face_walks.specs.declared.headings.Heading.{Heading}

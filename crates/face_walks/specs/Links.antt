@@ -3,7 +3,7 @@ use Rattle.std.specs.Prelude.{◌≡◌, ℕ, ◌+◌, ◌-◌, ◌<◌, ◌≤�
 use Rattle.half_edges.specs.declared.arena.HalfId.{HalfId}
 use Rattle.half_edges.specs.Halves.{Halves, count, next_of, twin_of}
 use Rattle.face_walks.specs.Linked.{piece_at}
-use Rattle.face_walks.specs.Rings.{HasHalf, half_at, ring_at}
+use Rattle.face_walks.specs.Rings.{half_at, ring_at}
 
 -- after what comes in at each of the first n half-edges of the ring goes the next of these out, after the last the first
 pub record LeadsRound (arena : Halves (ℕ × ℕ)) (ring : List HalfId) (n : ℕ) : Type 0 where

@@ -1,7 +1,7 @@
-use Rattle.std.proofs.Common.{◌≡◌, ℕ, ◌<◌, ◌≤◌, ◌+◌, Bool, List, [], true, false, length, replicate, sym, ap, subst, ◌∙◌, arith, rules}
+use Rattle.std.proofs.Common.{◌≡◌, ℕ, ◌<◌, ◌+◌, Bool, List, [], true, false, length, replicate, sym, ap, subst, ◌∙◌, rules}
 use Rattle.std.proofs.lemmas.List.{get_or_default}
 use Rattle.scaled_plane.specs.declared.drawing.Face.{Face}
-use Rattle.half_edges.specs.Halves.{IsArena, count}
+use Rattle.half_edges.specs.Halves.{count}
 use Rattle.face_walks.specs.declared.cycles.Found.{Found}
 use Rattle.face_walks.specs.Orders.{AreInOrder, half_in}
 use Rattle.face_walks.specs.Searches.{is_seen}

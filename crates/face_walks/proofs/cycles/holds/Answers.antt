@@ -1,4 +1,4 @@
-use Rattle.std.proofs.Common.{◌≡◌, ℕ, ◌<◌, length, sym, subst, ◌∙◌, rules}
+use Rattle.std.proofs.Common.{ℕ, ◌<◌, length, sym, subst, ◌∙◌, rules}
 use Rattle.std.proofs.lemmas.List.{get_or-map, length-map}
 use Rattle.half_edges.specs.declared.arena.HalfId.{HalfId}
 use Rattle.face_walks.proofs.cycles.holds.Goals as goal

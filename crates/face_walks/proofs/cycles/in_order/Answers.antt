@@ -1,4 +1,4 @@
-use Rattle.std.proofs.Common.{◌≡◌, ℕ, length, subst, sym, ◌∙◌, arith, rules}
+use Rattle.std.proofs.Common.{◌≡◌, ◌∙◌, arith, rules}
 use Rattle.half_edges.specs.Halves.{count}
 use Rattle.face_walks.proofs.CycleLists.{are_in_order}
 use Rattle.face_walks.proofs.cycles.in_order.Goals as goal

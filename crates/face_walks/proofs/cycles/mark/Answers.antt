@@ -1,4 +1,4 @@
-use Rattle.std.proofs.Common.{◌≡◌, ℕ, ◌+◌, ◌++◌, ◌∷◌, ◌<◌, [], List, length, take, sym, ap, subst, ◌∙◌, rules}
+use Rattle.std.proofs.Common.{◌≡◌, ℕ, ◌+◌, ◌++◌, ◌∷◌, ◌<◌, [], List, length, take, sym, subst, rules}
 use Rattle.std.specs.Prelude.{slice_set, true}
 use Rattle.std.proofs.lemmas.List.{map_more}
 use Rattle.half_edges.specs.declared.arena.HalfId.{HalfId}

@@ -1,8 +1,6 @@
 use Rattle.std.proofs.Common.{◌≡◌, true, false, sym, ◌∙◌}
-use Rattle.plane.specs.Directions.{IsSameWay, direction}
 use Rattle.face_walks.specs.Headings.{direction_of}
 use Rattle.face_walks.proofs.Bearings.{in_order, out_of_order}
-use Rattle.face_walks.proofs.headings.headings_along.Given as given
 use Rattle.face_walks.proofs.headings.headings_along.Goals as goal
 
 pub returns-then-are_alike-clause-there : goal.returns-then-are_alike-clause-there

@@ -1,6 +1,5 @@
-use Rattle.std.proofs.Common.{◌≡◌, sym, subst, ap₂}
+use Rattle.std.proofs.Common.{sym, subst}
 use Rattle.plane.specs.declared.point.Point.{Point}
-use Rattle.plane.specs.Points.{IsSamePoint}
 use Rattle.scaled_plane.specs.Drawn.{IsDrawn}
 use Rattle.face_walks.proofs.Settled.{drawn, ends_differ}
 use Rattle.face_walks.proofs.headings.headings_of_edge.Goals as goal

@@ -1,10 +1,10 @@
-use Rattle.std.proofs.Common.{◌≡◌, ℕ, ◌<◌, ◌≤◌, ◌+◌, List, [], Bool, true, false, replicate, length, refl, sym, ap, subst, ◌∙◌, arith, rules}
+use Rattle.std.proofs.Common.{◌≡◌, ℕ, ◌<◌, ◌≤◌, List, [], Bool, true, false, replicate, length, ap, subst, ◌∙◌, arith, rules}
 use Rattle.std.specs.Prelude.{Contains, MatchOption}
 use Rattle.std.proofs.lemmas.List.{get_or_default}
 use Rattle.half_edges.specs.declared.arena.HalfId.{HalfId}
 use Rattle.scaled_plane.specs.Lists.{begun}
 use Rattle.face_walks.specs.Linked.{piece_at}
-use Rattle.face_walks.specs.Rings.{half_at, ring_at}
+use Rattle.face_walks.specs.Rings.{half_at}
 use Rattle.face_walks.specs.Searches.{Finds, GoesOn, IsSearch, is_seen}
 use Rattle.face_walks.proofs.SearchLists.{done_more, done_none, empty_search, found_more, not_many, search_ends, still}
 use Rattle.face_walks.proofs.joined.first_parted.Goals as goal

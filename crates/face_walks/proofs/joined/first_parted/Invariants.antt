@@ -1,4 +1,4 @@
-use Rattle.std.proofs.Common.{◌≡◌, ◌-◌, ◌≤◌, length}
+use Rattle.std.proofs.Common.{◌-◌, length}
 use Rattle.std.specs.Prelude.{Contains}
 use Rattle.face_walks.specs.Searches.{IsSearch}
 use Rattle.face_walks.proofs.SearchLists.{AreDone}

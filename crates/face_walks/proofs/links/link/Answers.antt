@@ -1,4 +1,4 @@
-use Rattle.std.proofs.Common.{◌≡◌, List, length, rules, sym, subst, ◌∙◌, ap}
+use Rattle.std.proofs.Common.{List, length, rules, subst, ◌∙◌}
 use Rattle.half_edges.specs.declared.arena.HalfId.{HalfId}
 use Rattle.face_walks.specs.Links.{LeadsElsewhere, LeadsRound}
 use Rattle.face_walks.proofs.LinkLists.{lead_more}

@@ -1,4 +1,4 @@
-use Rattle.std.proofs.Common.{◌≡◌, ℕ, ◌<◌, ◌-◌, sym, subst, ◌∙◌, ap, ap₂, arith}
+use Rattle.std.proofs.Common.{◌≡◌, ℕ, ◌<◌, ◌-◌, subst, ◌∙◌, ap₂, arith}
 use Rattle.std.specs.List.{swap}
 use Rattle.half_edges.specs.Halves.{count, twin_of}
 use Rattle.face_walks.specs.Rings.{half_at}

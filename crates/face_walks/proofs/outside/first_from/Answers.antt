@@ -1,4 +1,4 @@
-use Rattle.std.proofs.Common.{◌≡◌, ℕ, ◌+◌, ◌<◌, length, true, false, sym, ap, subst, ◌∙◌, rules}
+use Rattle.std.proofs.Common.{◌≡◌, ◌+◌, ◌<◌, length, true, false, sym, subst, ◌∙◌, rules}
 use Rattle.half_edges.specs.declared.arena.HalfId.{HalfId}
 use Rattle.face_walks.specs.Headings.{direction_of}
 use Rattle.face_walks.specs.Outside.{IsFirstFrom}

@@ -1,4 +1,4 @@
-use Rattle.std.proofs.Common.{◌≡◌, ℕ, ◌+◌, ◌-◌, ◌/◌, ◌<◌, ◌≤◌, true, false, sym, ◌∙◌, arith}
+use Rattle.std.proofs.Common.{◌≡◌, ℕ, ◌+◌, ◌-◌, ◌/◌, ◌<◌, true, false, sym, ◌∙◌, arith}
 use Rattle.face_walks.proofs.RingLists.{parted_above, parted_below, parted_there}
 use Rattle.face_walks.proofs.rings.place_of.Goals as goal
 

@@ -1,6 +1,6 @@
 use Rattle.std.proofs.Common.{◌≡◌, ℕ, ◌+◌, ◌<◌, List, length, sym, ap, subst, ◌∙◌, arith}
 use Rattle.half_edges.specs.declared.arena.HalfId.{HalfId}
-use Rattle.half_edges.specs.Halves.{IsArena, count}
+use Rattle.half_edges.specs.Halves.{count}
 use Rattle.face_walks.specs.Linked.{piece_at}
 use Rattle.face_walks.specs.Rings.{AreApart, AreRings, IsPlaceFor, IsRing, ring_at}
 use Rattle.face_walks.proofs.RingLists.{apart, as_many, rings_grown}

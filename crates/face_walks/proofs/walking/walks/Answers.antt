@@ -1,7 +1,4 @@
-use Rattle.std.proofs.Common.{◌≡◌, ℕ, ◌<◌, [], length, true, false, sym, subst, ap, ◌∙◌, arith, rules}
-use Rattle.std.specs.Prelude.{IfOk, OnOk}
-use Rattle.scaled_plane.specs.Walks.{IsOuterWalk}
-use Rattle.regions.specs.Faces.{IsConnected}
+use Rattle.std.proofs.Common.{◌≡◌, ◌<◌, [], length, true, false, sym, ◌∙◌}
 use Rattle.face_walks.proofs.CycleLists.{on_ok_then}
 use Rattle.face_walks.proofs.Ends.{bounded_regions, faces_bounded, faces_none, have_regions, if_ok_then, no_edge, not_none, regions_none, some_edge}
 use Rattle.face_walks.proofs.walking.walks.Goals as goal
@@ -27,14 +24,14 @@ returns-then-is_empty-clause-two_walks_two_regions g c = λ e i.
 pub returns-clause-regions : goal.returns-clause-regions
 returns-clause-regions g c =
     let some : 0 < length c.args.drawing.now.vertices
-      = not_none c.args.drawing.now.vertices (λ e. let no : true ≡ false = sym (c.is_empty.ensures.1 e) ∙ c.if-is_empty.false in cc) in
+    = not_none c.args.drawing.now.vertices (λ e. let no : true ≡ false = sym (c.is_empty.ensures.1 e) ∙ c.if-is_empty.false in cc) in
     if_ok_then c.walks_of.result c.walks_of.ensures.faces c.walks_of.ensures.joined
     (λ w are joined. bounded_regions g.W.Whole.numbers c.args.drawing.now c.requires some w.faces are joined)
 
 pub returns-clause-outside : goal.returns-clause-outside
 returns-clause-outside g c =
     let some : 0 < length c.args.drawing.now.vertices
-      = not_none c.args.drawing.now.vertices (λ e. let no : true ≡ false = sym (c.is_empty.ensures.1 e) ∙ c.if-is_empty.false in cc) in
+    = not_none c.args.drawing.now.vertices (λ e. let no : true ≡ false = sym (c.is_empty.ensures.1 e) ∙ c.if-is_empty.false in cc) in
     let e = some_edge g.W.Whole.numbers c.args.drawing.now c.requires some in
     if_ok_then c.walks_of.result c.walks_of.ensures.outer c.walks_of.ensures.joined
     (λ w outer joined q at. (faces_bounded g.W.Whole.numbers c.args.drawing.now c.requires e.0 e.1 joined).outer w.outer.corners outer q at)

@@ -1,10 +1,10 @@
-use Rattle.std.proofs.Common.{◌≡◌, ℕ, ◌<◌, Bool, List, length, sym, subst, ap, ◌∙◌, rules}
+use Rattle.std.proofs.Common.{◌≡◌, ℕ, ◌<◌, Bool, List, length, sym, subst, ap, ◌∙◌}
 use Rattle.std.specs.Prelude.{Contains, IsTrue}
 use Rattle.std.proofs.lemmas.List.{with_items_is}
 use Rattle.half_edges.specs.declared.arena.HalfId.{HalfId}
-use Rattle.half_edges.specs.Cycles.{IsCycle, ids}
+use Rattle.half_edges.specs.Cycles.{ids}
 use Rattle.half_edges.specs.Halves.{count}
-use Rattle.face_walks.specs.Orders.{AreMarked, IsWalkFound, corners_of}
+use Rattle.face_walks.specs.Orders.{AreMarked, corners_of}
 use Rattle.face_walks.proofs.CycleLists.{on_ok_then, walk_found}
 use Rattle.face_walks.proofs.CycleWalks.{cycle_within}
 use Rattle.face_walks.proofs.cycles.Found.find.Goals as goal

@@ -1,4 +1,4 @@
-use Rattle.std.proofs.Common.{◌≡◌, ℕ, ◌<◌, ◌+◌, length, refl, sym, ap, subst, below_more, arith, rules}
+use Rattle.std.proofs.Common.{◌≡◌, ℕ, ◌<◌, length, refl, sym, ap, subst, below_more, rules}
 use Rattle.std.specs.Prelude.{Contains}
 use Rattle.half_edges.specs.Halves.{count}
 use Rattle.scaled_plane.specs.Lists.{gone_on}

@@ -1,4 +1,4 @@
-use Rattle.std.proofs.Common.{◌≡◌, ℕ, ◌<◌, length}
+use Rattle.std.proofs.Common.{ℕ, ◌<◌, length}
 use Rattle.std.specs.Prelude.{Contains}
 use Rattle.face_walks.specs.Linked.{piece_at}
 use Rattle.face_walks.specs.Rings.{half_at}
