@@ -16,3 +16,4 @@ pub mod Convex
 pub mod Known
 pub mod Orders
 pub mod Naming
+pub mod Square

@@ -2,6 +2,7 @@ ghost use Rattle.std.specs.Prelude.{◌≡◌, ◌↔◌, ◌⊎◌, ◌<◌, �
 ghost use Rattle.std.specs.Cmp.{IsTotalOrder};
 ghost use Rattle.std.specs.declared.cmp.Ordering.{Ordering};
 ghost use Rattle.std.specs.declared.cmp.Ordering.TheVariants.{Equal};
+ghost use Rattle.algebra.proofs.Integers.{integers};
 ghost use Rattle.algebra.specs.OrderedRing.{OrderedRing};
 ghost use Rattle.plane.specs.declared.point.Point.{Point};
 ghost use Rattle.plane.specs.declared.point.Line.{Line};
@@ -17,6 +18,7 @@ ghost use Rattle.layers.specs.Points.{IsAtSide, IsGeneric, IsLayered, IsOrderly,
 ghost use Rattle.layers.specs.Crossings.{Occurs, crossing_order};
 ghost use Rattle.layers.specs.Listing.{AreBeside, Changes, EdgeEnters, IsListed, RunTogether};
 ghost use Rattle.layers.specs.Folded.{IsConvex, IsFolded};
+ghost use Rattle.layers.specs.Square.{orders as square_orders, square};
 
 /// A convex face has a point inside. Near each point in the middle of one of its directed pieces, the points on the face's side
 /// of that piece are inside.
@@ -115,4 +117,13 @@ pub fn list_decides_points<T>()
     ensures whole { (K : OrderedRing T) (sheet : FoldedSheet T) (orders : List LayerOrder) → IsFolded K sheet
         → NoClash (Above sheet orders) → RanksOverlaps K sheet (Above sheet orders)
         → ((c : AnyCrossing) → ¬ IsListed K sheet (Above sheet orders) c) ↔ IsLayered K sheet (Above sheet orders) }
+{}
+
+/// A square folded in half is a folded sheet, and an order of its two faces ranks them and leaves it layered, so that what the
+/// theorems ask for can be met.
+pub fn folded_square_is_layered()
+    ensures folded { IsFolded integers square }
+    ensures one_way { NoClash (Above square square_orders) }
+    ensures ranked { RanksOverlaps integers square (Above square square_orders) }
+    ensures layered { IsLayered integers square (Above square square_orders) }
 {}
