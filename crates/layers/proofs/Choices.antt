@@ -1,4 +1,5 @@
--- Which face of an edge is called its first doesn't matter to the list, so each kind may be tested at the faces as they are found.
+-- Which face of an edge is called its first doesn't matter to the list, so each kind may be tested
+-- at the faces as they are found.
 use mathlib.Core.Path.{◌≡◌, sym, ap, subst, ◌∙◌}
 use mathlib.Core.List.{List, [], ◌∷◌}
 use mathlib.Core.Logic.{◌⊎◌, inl, inr, ◌↔◌}

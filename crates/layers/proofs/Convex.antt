@@ -1,4 +1,5 @@
--- Finitely many signs at the corners of a face say that it has points inside, and that these begin at the middle of each directed piece.
+-- Finitely many signs at the corners of a face say that it has points inside, and that these begin
+-- at the middle of each directed piece.
 use mathlib.Core.Bool.{Bool, true, false}
 use mathlib.Core.List.{List, [], ◌∷◌}
 use mathlib.Core.Logic.{inl, inr}
@@ -90,7 +91,8 @@ module _ {A : Type 0} (K : OrderedRing A) where
         let c = convex.solid s j in
         inward_side K face.turned s (centre face.corners) (centre_positive (inward_line K face.turned s) face.corners (none_negative j.0 s h) c.0 c.1 (inward_sign K face.turned s c.0 c.2))
 
-    -- at a point in the middle of s, another piece has the point strictly on its inner side, or lies along s the same way
+    -- at a point in the middle of s, another piece has the point strictly on its inner side, or
+    -- lies along s the same way
     pub data Beside (s t : Piece A) (p : Point A) : Type 0 where
       strictly : K.sign (value K.ops (inward_line K face.turned t) p) ≡ Greater → Beside s t p
       same_way : ((q : Point A) → side_of K s q ≡ side_of K t q) → Beside s t p

@@ -1,4 +1,4 @@
--- Each kind of crossing stands by the judge's list exactly where it occurs at some point.
+-- Each kind of crossing stands by the list exactly where it occurs at some point.
 use mathlib.Core.Path.{◌≡◌, refl, sym, subst, ◌∙◌}
 use mathlib.Core.List.{List, []}
 use mathlib.Core.Logic.{inl, inr, ◌↔◌}

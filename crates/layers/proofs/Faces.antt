@@ -1,4 +1,5 @@
--- Faces as open half-planes, the pieces of all faces, and generic points in open parts of the plane.
+-- Faces as open half-planes, the pieces of all faces, and generic points in open parts of the
+-- plane.
 use mathlib.Core.Path.{◌≡◌, refl, sym, ap, subst, ◌∙◌}
 use mathlib.Core.Bool.{Bool, true, false}
 use mathlib.Core.List.{List, [], ◌∷◌, ◌++◌}

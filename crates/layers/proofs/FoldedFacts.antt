@@ -20,7 +20,8 @@ module _ {A : Type 0} (K : OrderedRing A) (sheet : FoldedSheet A) where
     pub is_point : IsPoint K point
     pub inside : IsInside K sheet f point
 
-  -- the points round p, in some open half-planes in which p lies, that lie on the face's side of the piece s are inside of the face
+  -- the points round p, in some open half-planes in which p lies, that lie on the face's side of
+  -- the piece s are inside of the face
   pub record InsideNear (f : ℕ) (turned : Bool) (s : Piece A) (p : Point A) : Type 0 where
     pub near : List (Line A)
     pub holds : LiesIn K near p
@@ -30,7 +31,8 @@ module _ {A : Type 0} (K : OrderedRing A) (sheet : FoldedSheet A) where
     pub corner_is_point : (f : ℕ) (face : FoldedFace A) (v : Point A) → slice_get sheet.faces f ≡ Some face → Contains face.corners v → IsPoint K v
     -- each face has a point inside
     pub has_inside : (f : ℕ) (face : FoldedFace A) → slice_get sheet.faces f ≡ Some face → HasInside f
-    -- near the middle of a directed piece, the points on the face's side of it are inside of the face
+    -- near the middle of a directed piece, the points on the face's side of it are inside of the
+    -- face
     pub inside_near : (f k : ℕ) (s : Piece A) (h : HasPiece K sheet f k s) (p : Point A) → IsPoint K p → IsInMiddle K s p → InsideNear f h.face.turned s p
     -- two directed pieces of a face don't meet in their middles
     pub pieces_apart : (f k l : ℕ) (s t : Piece A) (p : Point A) → HasPiece K sheet f k s → HasPiece K sheet f l t → IsInMiddle K s p → IsInMiddle K t p → k ≡ l

@@ -1,4 +1,5 @@
--- Whether an order says that one face is above another can be found out, so overlaps are ranked where none is unranked.
+-- Whether an order says that one face is above another can be found out, so overlaps are ranked
+-- where none is unranked.
 use mathlib.Core.Path.{◌≡◌, refl, sym, ap, subst, ◌∙◌}
 use mathlib.Core.List.{List, [], ◌∷◌}
 use mathlib.Core.Logic.{◌⊎◌, inl, inr}
@@ -31,13 +32,19 @@ either (inl p) q = inl (inl p)
 either (inr n) (inl q) = inl (inr q)
 either (inr n) (inr m) = inr (λ h. elim h [ inl p ↦ n p | inr q ↦ m q ])
 
+-- what the order says of f and g, where its other face is this one
+abbrev pub Tells : {A : Type 0} → LayerOrder → FoldedFace A → ℕ → ℕ → Type 0
+Tells order face f g =
+    (order.face ≡ f) × (order.other ≡ g) × (seen_from_above face.turned order.normal_side ≡ Greater)
+    ⊎ (order.face ≡ g) × (order.other ≡ f) × (seen_from_above face.turned order.normal_side ≡ Less)
+
 module _ {A : Type 0} (sheet : FoldedSheet A) (f g : ℕ) where
-  states_or_not : (order : LayerOrder) → Says sheet order f g ⊎ ¬ Says sheet order f g
-  states_or_not order = at (cases_eq f g) (slice_get sheet.faces order.other) refl
+  says_or_not : (order : LayerOrder) → Says sheet order f g ⊎ ¬ Says sheet order f g
+  says_or_not order = at (cases_eq f g) (slice_get sheet.faces order.other) refl
     where
-      found : ¬ (f ≡ g) → (face : FoldedFace A) → slice_get sheet.faces order.other ≡ Some face → ((order.face ≡ f) × (order.other ≡ g) × (seen_from_above face.turned order.normal_side ≡ Greater) ⊎ (order.face ≡ g) × (order.other ≡ f) × (seen_from_above face.turned order.normal_side ≡ Less)) ⊎ ¬ ((order.face ≡ f) × (order.other ≡ g) × (seen_from_above face.turned order.normal_side ≡ Greater) ⊎ (order.face ≡ g) × (order.other ≡ f) × (seen_from_above face.turned order.normal_side ≡ Less)) → Says sheet order f g ⊎ ¬ Says sheet order f g
+      found : ¬ (f ≡ g) → (face : FoldedFace A) → slice_get sheet.faces order.other ≡ Some face → Tells order face f g ⊎ ¬ Tells order face f g → Says sheet order f g ⊎ ¬ Says sheet order f g
       found n face e (inl h) = inl (record { different = n; other = face; is_other = e; says = h })
-      found n face e (inr m) = inr (λ s. let a = s.is_other in let same : s.other ≡ face = cc in m (subst (λ (x : FoldedFace A). (order.face ≡ f) × (order.other ≡ g) × (seen_from_above x.turned order.normal_side ≡ Greater) ⊎ (order.face ≡ g) × (order.other ≡ f) × (seen_from_above x.turned order.normal_side ≡ Less)) same s.says))
+      found n face e (inr m) = inr (λ s. let a = s.is_other in let same : s.other ≡ face = cc in m (subst (λ (x : FoldedFace A). Tells order x f g) same s.says))
 
       at : (f ≡ g) ⊎ ¬ (f ≡ g) → (o : Option (FoldedFace A)) → slice_get sheet.faces order.other ≡ o → Says sheet order f g ⊎ ¬ Says sheet order f g
       at (inl e) o i = inr (λ s. s.different e)
@@ -48,7 +55,7 @@ module _ {A : Type 0} (sheet : FoldedSheet A) (f g : ℕ) where
 
   pub above_or_not : (orders : List LayerOrder) → Above sheet orders f g ⊎ ¬ Above sheet orders f g
   above_or_not [] = inr (λ a. in_nil a.order a.is_order)
-  above_or_not (o ∷ os) = of (states_or_not o) (above_or_not os)
+  above_or_not (o ∷ os) = of (says_or_not o) (above_or_not os)
     where
       of : Says sheet o f g ⊎ ¬ Says sheet o f g → Above sheet os f g ⊎ ¬ Above sheet os f g → Above sheet (o ∷ os) f g ⊎ ¬ Above sheet (o ∷ os) f g
       of (inl s) r = inl (record { order = o; is_order = in_head o os; says = s })
@@ -68,8 +75,8 @@ module _ {A : Type 0} (sheet : FoldedSheet A) (f g : ℕ) where
       seen : seen_from_above s.other.turned order.normal_side ≡ seen_from_above t.other.turned order.normal_side
       seen = ap (λ (x : FoldedFace A). seen_from_above x.turned order.normal_side) same
 
-      go : (order.face ≡ f) × (order.other ≡ g) × (seen_from_above s.other.turned order.normal_side ≡ Greater) ⊎ (order.face ≡ g) × (order.other ≡ f) × (seen_from_above s.other.turned order.normal_side ≡ Less)
-          → (order.face ≡ g) × (order.other ≡ f) × (seen_from_above t.other.turned order.normal_side ≡ Greater) ⊎ (order.face ≡ f) × (order.other ≡ g) × (seen_from_above t.other.turned order.normal_side ≡ Less) → ⊥
+      go : Tells order s.other f g
+          → Tells order t.other g f → ⊥
       go (inl a) (inl b) = s.different (sym a.0 ∙ b.0)
       go (inl a) (inr b) = let p = sym a.2 ∙ seen ∙ b.2 in cc
       go (inr a) (inl b) = let p = sym a.2 ∙ seen ∙ b.2 in cc

@@ -1,4 +1,5 @@
--- A stretch of a folded edge that holds a point of some open half-planes holds a seam point of them.
+-- A stretch of a folded edge that holds a point of some open half-planes holds a seam point of
+-- them.
 use mathlib.Core.Path.{◌≡◌, refl, sym, ap, subst, ◌∙◌}
 use mathlib.Core.List.{List, [], ◌∷◌, ◌++◌}
 use mathlib.Core.Logic.{◌⊎◌, inl, inr}

@@ -121,7 +121,8 @@ module _ {A : Type 0} (K : OrderedRing A) where
     abbrev pub swapped : {e f g : ℕ} → HasFaces K sheet e f g → HasFaces K sheet e g f
     swapped h = record { edge = h.edge; is = h.is; first = h.second; second = h.first; either = elim h.either [ inl a ↦ inr a | inr b ↦ inl b ] }
 
-    -- an edge is placed by its two faces alike, so each image is the piece of the one or the reversed piece of the other
+    -- an edge is placed by its two faces alike, so each image is the piece of the one or the
+    -- reversed piece of the other
     pub data ImageOf {e f g : ℕ} (h : HasFaces K sheet e f g) (m : MeetThere K sheet h) (face : ℕ) (s : Piece A) : Type 0 where
       by_first : face ≡ f → s ≡ m.piece → ImageOf h m face s
       by_second : face ≡ g → s ≡ reversed m.piece → ImageOf h m face s

@@ -27,14 +27,16 @@ use Rattle.layers.specs.declared.crossing.Crossing.{Crossing}
 use Rattle.layers.specs.declared.crossing.Crossing.TheVariants.{Cycle, Through, Creases, Joined, Letter}
 use Rattle.layers.specs.Pieces.{Piece, pieces_round, side_of, IsInMiddle}
 use Rattle.layers.specs.Sheets.{FoldedFace, FaceSide, FoldedEdge, IsCrease, IsJoin, HasPiece, HasFaces}
-use Rattle.layers.specs.Orders.{Above, NoClash, RanksOverlaps, LiesBetween, Opposed, seen_from_above}
+use Rattle.layers.specs.Orders.{LayerOrder, Above, NoClash, RanksOverlaps, LiesBetween, Opposed}
 use Rattle.layers.specs.Points.{IsOnNormalSide, LetterFits, IsLayered}
+use Rattle.layers.specs.Crossings.{Occurs}
 use Rattle.layers.specs.Listing.{IsListed}
 use Rattle.layers.specs.Folded.{IsConvex, IsFolded, IsSideOf, MeetThere}
-use Rattle.layers.specs.Square.{corner, lower, upper, side_at, border, diagonal, square, upper_on_lower, orders}
+use Rattle.layers.specs.Square.{corner, lower, upper, side_at, border, diagonal, square, upper_on_lower, orders, upper_behind_lower, misorders}
 use Rattle.layers.proofs.Faces.{line_of, side_is_value, on_own_line}
-use Rattle.layers.proofs.Orders.{no_clash}
+use Rattle.layers.proofs.Orders.{Tells, no_clash}
 use Rattle.layers.proofs.Known.{facts}
+use Rattle.layers.proofs.FaceWise.{listed_where_occurs}
 use Rattle.layers.proofs.Whole.{layered_where_none_listed}
 
 -- ---- short lists
@@ -295,14 +297,18 @@ square_ranked (suc (suc f)) g n o = let e = o.in_first.is in absurd (cc)
 square_ranked zero (suc (suc g)) n o = let e = o.in_second.is in absurd (cc)
 square_ranked (suc zero) (suc (suc g)) n o = let e = o.in_second.is in absurd (cc)
 
-only_above : {f g : ℕ} → IsAbove f g → (1 ≡ f) × (0 ≡ g)
-only_above {f} {g} h = each (λ order. slice_get square.faces order.other ≡ Some h.says.other
-    → (order.face ≡ f) × (order.other ≡ g) × (seen_from_above h.says.other.turned order.normal_side ≡ Greater)
-    ⊎ (order.face ≡ g) × (order.other ≡ f) × (seen_from_above h.says.other.turned order.normal_side ≡ Less) → (1 ≡ f) × (0 ≡ g)) orders (of, tt) h.order h.is_order h.says.is_other h.says.says
+-- what the only order of a list says, where its other face is the lower one
+told : {f g : ℕ} (order : LayerOrder) → slice_get square.faces order.other ≡ Some lower → Above square (order ∷ []) f g → Tells order lower f g
+told {f} {g} order is h = subst (λ (x : FoldedFace ℤ). Tells order x f g) face (subst (λ o. Tells o h.says.other f g) same h.says.says)
   where
-    of : Some lower ≡ Some h.says.other → (1 ≡ f) × (0 ≡ g) × (seen_from_above h.says.other.turned Greater ≡ Greater) ⊎ (1 ≡ g) × (0 ≡ f) × (seen_from_above h.says.other.turned Greater ≡ Less) → (1 ≡ f) × (0 ≡ g)
-    of is (inl s) = (s.0, s.1)
-    of is (inr s) = let seen : seen_from_above lower.turned Greater ≡ Less = subst (λ (x : FoldedFace ℤ). seen_from_above x.turned Greater ≡ Less) (sym (same_Some lower h.says.other is)) s.2 in absurd (cc)
+    same : h.order ≡ order
+    same = elim (in_cons order [] h.order h.is_order) [ inl e ↦ sym e | inr j ↦ absurd (in_nil h.order j) ]
+
+    face : h.says.other ≡ lower
+    face = same_Some h.says.other lower (sym h.says.is_other ∙ ap (λ o. slice_get square.faces o.other) same ∙ is)
+
+only_above : {f g : ℕ} → IsAbove f g → (1 ≡ f) × (0 ≡ g)
+only_above h = elim (told upper_on_lower refl h) [ inl s ↦ (s.0, s.1) | inr s ↦ let e = s.2 in absurd (cc) ]
 
 no_chain : {f g h : ℕ} → IsAbove f g → IsAbove g h → ⊥
 no_chain x y = let p = (only_above x).1 in let q = (only_above y).0 in omega (arith, p, q)
@@ -340,3 +346,23 @@ none_listed (Letter e) x = x.misfit (letter_fits e x.first x.second x.faces)
 
 pub square_layered : IsLayered integers square IsAbove
 square_layered = (layered_where_none_listed integers square (facts integers square square_folded) IsAbove square_one_way square_ranked).0 none_listed
+
+-- ---- where the order is against the letter
+
+only_misabove : {f g : ℕ} → Above square misorders f g → (0 ≡ f) × (1 ≡ g)
+only_misabove h = elim (told upper_behind_lower refl h) [ inl s ↦ let e = s.2 in absurd (cc) | inr s ↦ (s.1, s.0) ]
+
+not_on_upper : ¬ IsOnNormalSide integers square (Above square misorders) 0 1
+not_on_upper h = of h.lies
+  where
+    of : (h.other.turned ≡ false) × Above square misorders 0 1 ⊎ (h.other.turned ≡ true) × Above square misorders 1 0 → ⊥
+    of (inl s) = not_both_back (ap (λ (x : FoldedFace ℤ). x.turned) (same_Some upper h.other h.is_other) ∙ s.0)
+    of (inr s) = let e = (only_misabove s.1).0 in omega (arith, e)
+
+pub letter_occurs : Occurs integers square (Above square misorders) (Letter 4)
+letter_occurs = (listed_where_occurs integers square (facts integers square square_folded) (Above square misorders) (Letter 4)).0 (record {
+  first = 0;
+  second = 1;
+  faces = record { edge = diagonal; is = refl; first = 2; second = 0; either = inl refl };
+  misfit = λ fits. not_on_upper fits.0;
+})

@@ -1,4 +1,5 @@
--- A list of different things, of which one of each two is above the other, without a cycle of three, can be listed so that each is above each later one.
+-- A list of different things, of which one of each two is above the other, without a cycle of
+-- three, can be listed so that each is above each later one.
 use mathlib.Core.Path.{◌≡◌, refl, sym, subst}
 use mathlib.Core.List.{List, [], ◌∷◌}
 use mathlib.Core.Logic.{◌⊎◌, inl, inr, ◌↔◌}

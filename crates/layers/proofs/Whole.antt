@@ -1,4 +1,5 @@
--- No crossing stands by the list exactly where each stack has one order, each seam point is clear and the letters fit.
+-- No crossing stands by the list exactly where each stack has one order, each seam point is clear
+-- and the letters fit.
 use mathlib.Core.Path.{◌≡◌, refl, sym, ap, subst, ◌∙◌}
 use mathlib.Core.Bool.{Bool, true, false}
 use mathlib.Core.List.{List, [], ◌∷◌}

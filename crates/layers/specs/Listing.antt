@@ -16,7 +16,7 @@ use Rattle.layers.specs.Orders.{LiesBetween, OneBetween}
 use Rattle.layers.specs.Points.{LiesOn, LetterFits}
 
 module _ {A : Type 0} (K : OrderedRing A) (sheet : FoldedSheet A) where
-  -- the insides of the three faces share a point
+  -- some point is inside all three faces
   pub record ThreeOverlap (f g h : ℕ) : Type 0 where
     pub point : Point A
     pub is_point : IsPoint K point
@@ -24,7 +24,7 @@ module _ {A : Type 0} (K : OrderedRing A) (sheet : FoldedSheet A) where
     pub in_second : IsInside K sheet g point
     pub in_third : IsInside K sheet h point
 
-  -- a point of the folded edge other than its ends is inside the folded face
+  -- the folded edge has a point between its ends that is inside the face
   pub record EdgeEnters (e f : ℕ) : Type 0 where
     pub face : ℕ
     pub piece : Piece A
@@ -77,7 +77,7 @@ module _ {A : Type 0} (K : OrderedRing A) (sheet : FoldedSheet A) where
     abbrev pub Changes : ℕ → ℕ → ℕ → ℕ → Type 0
     Changes f g h k = above f h × above k g ⊎ above h f × above g k
 
-    -- three faces share a point, each above the next and the last above the first, f the least
+    -- some point is inside three faces that are ranked in a ring, of which f is the least
     pub record CycleListed (f g h : ℕ) : Type 0 where
       pub least : (f < g) × (f < h)
       pub around : above f g × above g h × above h f
@@ -92,8 +92,8 @@ module _ {A : Type 0} (K : OrderedRing A) (sheet : FoldedSheet A) where
       pub enters : EdgeEnters e h
       pub is_between : LiesBetween above h first second
 
-    -- the crease e and the join d run together, and the face of d on the side of the faces of e is
-    -- between these
+    -- along a stretch of the crease e and the join d, the face that d has on the side of the faces of
+    -- e is between these
     pub record ThroughListed (e d : ℕ) : Type 0 where
       pub line : Piece A
       pub together : RunAlong e d line
@@ -106,8 +106,8 @@ module _ {A : Type 0} (K : OrderedRing A) (sheet : FoldedSheet A) where
       pub join : HasSides IsJoin line on_side (ordering_reverse on_side) d near far
       pub is_between : LiesBetween above near first second
 
-    -- two creases run together with their faces on one side, and exactly one face of the second is
-    -- between the faces of the first
+    -- along a stretch of two creases, their faces are all on one side, and of those of d one is between
+    -- those of e and one isn't
     pub record CreasesListed (e d : ℕ) : Type 0 where
       pub ordered : e < d
       pub line : Piece A
@@ -121,8 +121,8 @@ module _ {A : Type 0} (K : OrderedRing A) (sheet : FoldedSheet A) where
       pub other_crease : HasSides IsCrease line on_side on_side d other_first other_second
       pub one_between : OneBetween above other_first other_second first second
 
-    -- two joins run together, and the first one's face is above the second one's on one side, and
-    -- below it on the other
+    -- along a stretch of two joins, the face of e is above that of d on one side, and below it on the
+    -- other
     pub record JoinedListed (e d : ℕ) : Type 0 where
       pub ordered : e < d
       pub line : Piece A

@@ -19,7 +19,7 @@ module _ {A : Type 0} (K : OrderedRing A) (sheet : FoldedSheet A) where
   abbrev pub IsGeneric : Point A → Type 0
   IsGeneric p = (e : ℕ) → ¬ GoesThrough K sheet e p
 
-  -- on a folded edge and on no folded vertex, where all folded edges through it lie along one line
+  -- p is at no folded vertex, and on folded edges that all lie along the line there
   pub record IsSeam (line : Piece A) (p : Point A) : Type 0 where
     pub is_point : IsPoint K p
     pub is_line : ¬ IsSamePoint K line.from line.to
@@ -70,15 +70,14 @@ module _ {A : Type 0} (K : OrderedRing A) (sheet : FoldedSheet A) where
   -- ---- how the layers may lie
 
   module _ (above : ℕ → ℕ → Type 0) where
-    -- the faces with the point inside can be listed so that each is above every later one
+    -- the faces with p inside make one pile: a list of them, each above all after it
     pub record IsOrderly (p : Point A) : Type 0 where
       pub layers : List ℕ
       pub are_stack : (f : ℕ) → Contains layers f ↔ IsInside K sheet f p
       pub descending : Descending above layers
 
-    -- No strand has a face between the two faces of an arc, of two arcs on one side never does exactly
-    -- one face of the second lie between those of the first, and of two strands the one that is above
-    -- on one side is above on the other.
+    -- nothing that lies across has a face between those of an arc, two arcs on one side are nested or
+    -- apart, and what lies across keeps its order from one side to the other
     pub record IsClear (line : Piece A) (p : Point A) : Type 0 where
       pub no_face_in_arc : (s : Ordering) (e f g : ℕ) (strand : Strand) (h k : ℕ) → IsArc line p s e f g → IsAcross line p s strand h k
           → ¬ LiesBetween above h f g

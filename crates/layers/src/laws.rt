@@ -18,7 +18,7 @@ ghost use Rattle.layers.specs.Points.{IsAtSide, IsGeneric, IsLayered, IsOrderly,
 ghost use Rattle.layers.specs.Crossings.{Occurs, crossing_order};
 ghost use Rattle.layers.specs.Listing.{AreBeside, Changes, EdgeEnters, IsListed, RunTogether};
 ghost use Rattle.layers.specs.Folded.{IsConvex, IsFolded};
-ghost use Rattle.layers.specs.Square.{orders as square_orders, square};
+ghost use Rattle.layers.specs.Square.{misorders, orders as square_orders, square};
 
 /// A convex face has a point inside. Near each point in the middle of one of its directed pieces, the points on the face's side
 /// of that piece are inside.
@@ -120,10 +120,11 @@ pub fn list_decides_points<T>()
 {}
 
 /// A square folded in half is a folded sheet, and an order of its two faces ranks them and leaves it layered, so that what the
-/// theorems ask for can be met.
+/// theorems ask for can be met. By the opposite order the letter of its crease doesn't fit.
 pub fn folded_square_is_layered()
     ensures folded { IsFolded integers square }
     ensures one_way { NoClash (Above square square_orders) }
     ensures ranked { RanksOverlaps integers square (Above square square_orders) }
     ensures layered { IsLayered integers square (Above square square_orders) }
+    ensures misordered { Occurs integers square (Above square misorders) (Letter 4) }
 {}
