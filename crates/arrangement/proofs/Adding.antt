@@ -2,9 +2,8 @@
 use mathlib.Core.Path.{◌≡◌, refl, sym, ap, subst}
 use mathlib.Core.List.{List, [], ◌∷◌, map}
 use mathlib.Core.Bool.{Bool, true, false, not, ◌||◌}
-use native.Mathlib.Omega.{arith}
 use Rattle.std.proofs.Common.{inl, inr}
-use Rattle.std.specs.Prelude.{◌⊎◌, Contains, ◌<◌}
+use Rattle.std.specs.Prelude.{◌⊎◌, Contains}
 use Rattle.std.specs.Bool.{OnFalse}
 use Rattle.std.specs.List.{list_any}
 use Rattle.std.specs.Ordering.{match_ordering, is_eq}

@@ -1,20 +1,19 @@
 -- What covers the pieces of segments gives their edges and lines, in a well set drawing.
-use mathlib.Core.Path.{◌≡◌, refl, sym, ap, subst, ◌∙◌}
+use mathlib.Core.Path.{◌≡◌, refl, sym, subst, ◌∙◌}
 use mathlib.Core.List.{List, [], ◌∷◌, ◌++◌, map}
 use mathlib.Core.Logic.{◌⊎◌, inl, inr}
 use native.Mathlib.Omega.{arith}
-use Rattle.std.specs.Prelude.{ℕ, ◌+◌, ◌*◌, ◌^◌, ◌<◌, ◌≤◌, ◌↔◌, ℤ, Contains, All, AllPairs, IsTrue, true, Option, None, Some, MatchOption, length, max, min, slice_get, slice_index_or}
-use Rattle.std.specs.List.{AllByRecursion, AllZip}
+use Rattle.std.specs.Prelude.{ℕ, ◌^◌, ◌<◌, ◌≤◌, ◌↔◌, ℤ, Contains, AllPairs, IsTrue, true, Option, None, Some, length, max, min, slice_get, slice_index_or}
+use Rattle.std.specs.List.{AllZip}
 use Rattle.std.specs.List.Sorted.{IsStrictlySortedBy}
-use Rattle.std.specs.Map.{keys_of}
-use Rattle.std.specs.Ordering.{is_eq, nat_cmp, ordering_then}
+use Rattle.std.specs.Ordering.{is_eq, nat_cmp}
 use Rattle.std.specs.Cmp.{IsTotalOrder, nat_cmp_total, on_total}
 use Rattle.std.specs.declared.cmp.Ordering.{Ordering}
 use Rattle.std.specs.declared.cmp.Ordering.TheVariants.{Less, Equal, Greater}
 use Rattle.std.specs.BTreeMap.{BTreeMap, IsOrdered, get}
 use Rattle.std.proofs.lemmas.Bool.{cases_lt}
 use Rattle.std.proofs.lemmas.Cmp.{then_total}
-use Rattle.std.proofs.lemmas.List.Elements.{All-contains, All-weaker, Contains-append_left, Contains-get_or}
+use Rattle.std.proofs.lemmas.List.Elements.{All-weaker, Contains-append_left, Contains-get_or}
 use Rattle.std.proofs.lemmas.Map.Entries.{btree_map_get_place, place_from_lookup}
 use Rattle.std.proofs.lemmas.Map.Keys.{Less-from_sorted}
 use Rattle.std.proofs.lemmas.Map.Lookups.{exact_pairs, exact_unsigned}
@@ -23,17 +22,16 @@ use Rattle.algebra.specs.OrderedRing.{OrderedRing}
 use Rattle.algebra.specs.Surd.{Surd}
 use Rattle.algebra.specs.WholeSurds.{SurdNumbers}
 use Rattle.plane.specs.declared.point.Point.{Point}
-use Rattle.plane.specs.Points.{IsPoint, IsSamePoint, point_order}
+use Rattle.plane.specs.Points.{IsPoint, point_order}
 use Rattle.plane.specs.Lines.{side}
-use Rattle.plane.specs.Segments.{IsBetween, IsEnd, IsOn, MeetInEnds}
-use Rattle.plane.proofs.Lines.{same_refl, same_through, same_turned}
-use Rattle.plane.proofs.Members.{in_cons, in_head, in_nil, in_tail}
+use Rattle.plane.specs.Segments.{IsEnd, MeetInEnds}
+use Rattle.plane.proofs.Lines.{same_refl, same_turned}
+use Rattle.plane.proofs.Members.{in_head, in_tail}
 use Rattle.plane.proofs.OnSegments.{between_is_on, from_is_on, on_between, to_is_on}
 use Rattle.plane.proofs.Order.{order_same, order_same_right}
 use Rattle.plane.proofs.Shares.{on_same, side_of_on}
 use Rattle.scaled_plane.specs.declared.point.Segment.{Segment}
 use Rattle.scaled_plane.specs.declared.drawing.Edge.{Edge}
-use Rattle.scaled_plane.specs.declared.drawing.Drawing.{Drawing}
 use Rattle.scaled_plane.specs.Drawn.{IsDrawn, IsScaledPoint, IsScaledSegment}
 use Rattle.scaled_plane.specs.Pieces.{AreLines, ArePieces, AreVertices, Covers, CoversWith, IsEndOfOne, IsFirstCover, IsLine, IsMerged, IsPiece, IsPieceEdge, IsProper, IsVertex, edge_order}
 use Rattle.scaled_plane.specs.WellSet.{HasEnd, IsWellSet, LiesAlong}
@@ -42,12 +40,12 @@ use Rattle.arrangement.specs.declared.covers.Cover.{Cover}
 use Rattle.arrangement.specs.Covers.{HasCovers, HasEndsAt, IsCover, IsEdgeOf, IsKnown, IsPlaceOf, JoinsNext, LiesOn, piece_order}
 use Rattle.arrangement.specs.Found.{HasEnds}
 use Rattle.arrangement.specs.Letters.{has}
-use Rattle.arrangement.proofs.Joining.{ends_of, first_on, last_joins, next_on, on_from_first, on_to_second, second_on}
+use Rattle.arrangement.proofs.Joining.{ends_of, last_joins, next_on, on_from_first, on_to_second}
 use Rattle.arrangement.proofs.Merging.{merged_moved, merged_once}
-use Rattle.arrangement.proofs.OnLines.{Before, apart, between_on_line, line_of_three, order_of_between}
+use Rattle.arrangement.proofs.OnLines.{apart, between_on_line, line_of_three, order_of_between}
 use Rattle.arrangement.proofs.Zipped.{edges_differ, edges_sorted, few_edges, in_of_place, of_first, of_second, place_of_in, weaker_within, with_made}
 use Rattle.arrangement.proofs.Parting.{pieces_apart}
-use Rattle.arrangement.proofs.Places.{at, at_there, before_at, one_place, place_in, place_of_has, places_before}
+use Rattle.arrangement.proofs.Places.{at, at_there, before_at, one_place, place_of_has, places_before}
 
 pub pieces_total : IsTotalOrder piece_order
 pieces_total = then_total (on_total (λ (p : ℕ × ℕ). p.0) nat_cmp_total) (on_total (λ (p : ℕ × ℕ). p.1) nat_cmp_total)
@@ -128,10 +126,15 @@ module _ {A : Type 0} (K : OrderedRing A) (segments : List (Segment A)) (vertice
   -- a vertex is on a proper segment
   covering : (v : ℕ) → v < length vertices → (s : Segment A) × Contains segments s × IsProper K s × LiesOn K vertices s v
   covering v h = elim (vertex_at v h).1 [
-    | inl e ↦ (e.0, e.1, e.2, elim e.3 [
+    | inl e ↦ (
+      e.0,
+      e.1,
+      e.2,
+      elim e.3 [
         | inl f ↦ on_same K (ends e.0 e.1).0 (point_there v h) (same_turned K f) (from_is_on K (e.0).from (e.0).to)
         | inr f ↦ on_same K (ends e.0 e.1).1 (point_there v h) (same_turned K f) (to_is_on K (e.0).from (e.0).to)
-      ])
+      ],
+    )
     | inr k ↦ (k.0, k.2, k.4, k.7.0)
   ]
 
@@ -274,9 +277,9 @@ module _ {A : Type 0} (K : OrderedRing A) (segments : List (Segment A)) (vertice
           let hf = edge_is f (Contains-get_or edges j d within) in
           pieces_apart K segments (at K vertices e.from) (at K vertices e.to) (at K vertices f.from) (at K vertices f.to) he.piece hf.piece
           (λ same. edges_differ e f (Less-from_sorted edge_order edges i j d sorted_edges less within) (
-              one_place K vertices all.sorted e.from f.from (let x = he.in_order in let y = he.in_range in omega (arith, x, y)) (let x = hf.in_order in let y = hf.in_range in omega (arith, x, y)) same.0,
-              one_place K vertices all.sorted e.to f.to he.in_range hf.in_range same.1,
-            ))
+            one_place K vertices all.sorted e.from f.from (let x = he.in_order in let y = he.in_range in omega (arith, x, y)) (let x = hf.in_order in let y = hf.in_range in omega (arith, x, y)) same.0,
+            one_place K vertices all.sorted e.to f.to he.in_range hf.in_range same.1,
+          ))
 
       pub each_used : (v : ℕ) → v < length vertices → (e : Edge) × Contains edges e × HasEnd e v
       each_used v h = by_cases (joined v h)
@@ -317,14 +320,24 @@ module _ {A : Type 0} {k : ℕ} {surd : A → Surd ℤ} (numbers : SurdNumbers k
       first_in_range = first;
       second_in_range = h.in_range;
       different = λ z. (let x = h.in_order in omega (arith, x, z));
-      first_scaled = scaled_ends (at numbers.ring vertices line.0) (at_there numbers.ring vertices line.0 first) (cover, there, cover_proper, elim h.is.ends [
-        | inl same ↦ inl (same_turned numbers.ring same.0)
-        | inr same ↦ inr (same_turned numbers.ring same.1)
-      ]);
-      second_scaled = scaled_ends (at numbers.ring vertices line.1) (at_there numbers.ring vertices line.1 h.in_range) (cover, there, cover_proper, elim h.is.ends [
-        | inl same ↦ inr (same_turned numbers.ring same.1)
-        | inr same ↦ inl (same_turned numbers.ring same.0)
-      ]);
+      first_scaled = scaled_ends (at numbers.ring vertices line.0) (at_there numbers.ring vertices line.0 first) (
+        cover,
+        there,
+        cover_proper,
+        elim h.is.ends [
+          | inl same ↦ inl (same_turned numbers.ring same.0)
+          | inr same ↦ inr (same_turned numbers.ring same.1)
+        ],
+      );
+      second_scaled = scaled_ends (at numbers.ring vertices line.1) (at_there numbers.ring vertices line.1 h.in_range) (
+        cover,
+        there,
+        cover_proper,
+        elim h.is.ends [
+          | inl same ↦ inr (same_turned numbers.ring same.1)
+          | inr same ↦ inl (same_turned numbers.ring same.0)
+        ],
+      );
       from_on = line_of_three numbers.ring cover.from cover.to (at numbers.ring vertices line.0) (at numbers.ring vertices line.1) (at numbers.ring vertices e.from) cover_proper first_on_line second_on_line (side_of_on numbers.ring h.is.covers.first);
       to_on = line_of_three numbers.ring cover.from cover.to (at numbers.ring vertices line.0) (at numbers.ring vertices line.1) (at numbers.ring vertices e.to) cover_proper first_on_line second_on_line (side_of_on numbers.ring h.is.covers.second);
     }

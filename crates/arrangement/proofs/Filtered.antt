@@ -12,7 +12,7 @@ use Rattle.plane.specs.Points.{point_order}
 use Rattle.plane.proofs.Members.{in_cons, in_head, in_nil, in_tail}
 use Rattle.plane.proofs.Order.{equal_of_same, same_of_equal}
 use Rattle.scaled_plane.specs.declared.point.Segment.{Segment}
-use Rattle.scaled_plane.specs.Pieces.{AreVertices, IsCut, IsEndOfOne, IsProper, IsVertex}
+use Rattle.scaled_plane.specs.Pieces.{AreVertices, IsEndOfOne, IsProper, IsVertex}
 use Rattle.arrangement.specs.Spans.{is_proper}
 
 kept_at : {X : Type 0} (p : X → Bool) (x : X) (xs : List X) (y : X) (b : Bool) → p x ≡ b → (Contains (filter p xs) y → Contains xs y × (p y ≡ true))

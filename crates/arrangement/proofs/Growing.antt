@@ -14,7 +14,7 @@ use Rattle.scaled_plane.specs.declared.point.Segment.{Segment}
 use Rattle.plane.specs.Points.{IsPoint, IsSamePoint, point_order}
 use Rattle.scaled_plane.specs.Counts.{share_x}
 use Rattle.scaled_plane.specs.Sizes.{IsDrawnSize}
-use Rattle.scaled_plane.specs.Drawn.{IsDrawn, IsScaledPoint}
+use Rattle.scaled_plane.specs.Drawn.{IsDrawn}
 use Rattle.plane.proofs.Lines.{same_through}
 use Rattle.scaled_plane.proofs.DrawnSizes.{drawn_size}
 use Rattle.plane.proofs.Crossings.{parallel_apart}

@@ -1,12 +1,12 @@
 -- The pieces of segments are the pairs of neighbours among the vertices on them.
 use mathlib.Core.Path.{◌≡◌, refl, sym, ap, subst, ◌∙◌}
-use mathlib.Core.List.{List, [], ◌∷◌}
+use mathlib.Core.List.{List}
 use mathlib.Core.Logic.{◌⊎◌, inl, inr}
 use native.Mathlib.Omega.{arith}
 use Prim.Native.Nat.{zero, suc}
-use Rattle.std.specs.Prelude.{ℕ, ◌+◌, ◌-◌, ◌<◌, ◌≤◌, ◌↔◌, Bool, true, false, Contains, IsTrue, length, max, min}
+use Rattle.std.specs.Prelude.{ℕ, ◌+◌, ◌-◌, ◌<◌, ◌≤◌, Bool, true, false, Contains, length, max, min}
 use Rattle.std.specs.List.Sorted.{IsStrictlySortedBy}
-use Rattle.std.specs.Ordering.{is_eq, is_le, ordering_reverse}
+use Rattle.std.specs.Ordering.{is_eq, ordering_reverse}
 use Rattle.std.specs.declared.cmp.Ordering.{Ordering}
 use Rattle.std.specs.declared.cmp.Ordering.TheVariants.{Less, Equal, Greater}
 use Rattle.std.proofs.lemmas.Bool.{cases_lt, cases_order}
@@ -14,18 +14,18 @@ use Rattle.algebra.specs.OrderedRing.{OrderedRing}
 use Rattle.plane.specs.declared.point.Point.{Point}
 use Rattle.plane.specs.Points.{IsPoint, IsSamePoint, point_order}
 use Rattle.plane.specs.Lines.{side}
-use Rattle.plane.specs.Segments.{IsBetween, IsOn}
+use Rattle.plane.specs.Segments.{IsOn}
 use Rattle.plane.proofs.Along.{between_of_on, on_of_between}
-use Rattle.plane.proofs.Lines.{same_refl, same_through, same_turned, swapped}
-use Rattle.plane.proofs.OnSegments.{between_is_on, from_is_on, on_between, on_turned, to_is_on}
+use Rattle.plane.proofs.Lines.{same_through, same_turned, swapped}
+use Rattle.plane.proofs.OnSegments.{from_is_on, on_turned, to_is_on}
 use Rattle.plane.proofs.Order.{equal_of_same, order_same, order_same_right}
 use Rattle.plane.proofs.Shares.{on_same, side_of_on}
 use Rattle.plane.proofs.Signs.{equal_le, less_le}
 use Rattle.scaled_plane.specs.declared.point.Segment.{Segment}
-use Rattle.scaled_plane.specs.Pieces.{AreVertices, Covers, IsPiece, IsProper, IsVertex}
+use Rattle.scaled_plane.specs.Pieces.{IsProper}
 use Rattle.arrangement.specs.Covers.{HasEndsAt, IsLastOn, IsPlaceOf, JoinsNext, LiesOn}
-use Rattle.arrangement.proofs.OnLines.{Before, Upto, apart, between_on_line, order_of_between, three_orders, turned_order, upto_not_before}
-use Rattle.arrangement.proofs.Places.{at, at_there, before_at, one_place, place_in, places_before}
+use Rattle.arrangement.proofs.OnLines.{Before, Upto, apart, upto_not_before}
+use Rattle.arrangement.proofs.Places.{at, at_there, before_at}
 
 module _ {A : Type 0} (K : OrderedRing A) where
   -- ---- points on a segment, by the order of its ends
@@ -202,15 +202,17 @@ module _ {A : Type 0} (K : OrderedRing A) (vertices : List (Point A)) (points : 
     -- from a vertex on the segment before the greater end it goes on to a next one
     next_at : (n v u : ℕ) → (u + 1 + n ≡ ends.1 → IsLastOn K vertices s (u + 1) v → (w : ℕ) × JoinsNext K vertices s v w) → u + suc n ≡ ends.1 → ends.0 ≤ v → IsLastOn K vertices s u v
         → LiesOn K vertices s u ⊎ (¬ LiesOn K vertices s u) → (w : ℕ) × JoinsNext K vertices s v w
-    next_at n v u rest e from last (inl on) =
-        (u, record {
-          proper = proper;
-          in_order = last.before;
-          in_range = let x = h.in_range in omega (arith, e, x);
-          first = last.on;
-          second = on;
-          nothing_between = last.none_since;
-        })
+    next_at n v u rest e from last (inl on) = (
+      u,
+      record {
+        proper = proper;
+        in_order = last.before;
+        in_range = let x = h.in_range in omega (arith, e, x);
+        first = last.on;
+        second = on;
+        nothing_between = last.none_since;
+      },
+    )
     next_at n v u rest e from last (inr off) =
         rest (omega (arith, e)) (record {
           before = let x = last.before in omega (arith, x);
@@ -224,15 +226,17 @@ module _ {A : Type 0} (K : OrderedRing A) (vertices : List (Point A)) (points : 
 
     next_from : (n v u : ℕ) → u + n ≡ ends.1 → ends.0 ≤ v → IsLastOn K vertices s u v → (w : ℕ) × JoinsNext K vertices s v w
     next_from zero v u e from last =
-        let here : ends.1 ≡ u = omega (arith, e) in
-        (u, record {
-          proper = proper;
-          in_order = last.before;
-          in_range = subst (λ x. x < length vertices) here h.in_range;
-          first = last.on;
-          second = subst (LiesOn K vertices s) here second_on;
-          nothing_between = last.none_since;
-        })
+        let here : ends.1 ≡ u = omega (arith, e) in (
+          u,
+          record {
+            proper = proper;
+            in_order = last.before;
+            in_range = subst (λ x. x < length vertices) here h.in_range;
+            first = last.on;
+            second = subst (LiesOn K vertices s) here second_on;
+            nothing_between = last.none_since;
+          },
+        )
     next_from (suc n) v u e from last =
         next_at n v u (λ f more. next_from n v (u + 1) f from more) e from last
         (on_decided u (let x = last.before in omega (arith, x, from)) (omega (arith, e)))
@@ -248,12 +252,14 @@ module _ {A : Type 0} (K : OrderedRing A) (vertices : List (Point A)) (points : 
     last_at n u found (inl on) e =
         (ends.0 + 1 + n, record { before = omega (arith, e); on = on; none_since = λ w more less. absurd (omega (arith, more, less, e)) })
     last_at n u found (inr off) e =
-        let last = found.1 in
-        (found.0, record {
-          before = let x = last.before in omega (arith, x, e);
-          on = last.on;
-          none_since = λ w more less. not_yet w more less (cases_lt w (ends.0 + 1 + n));
-        })
+        let last = found.1 in (
+          found.0,
+          record {
+            before = let x = last.before in omega (arith, x, e);
+            on = last.on;
+            none_since = λ w more less. not_yet w more less (cases_lt w (ends.0 + 1 + n));
+          },
+        )
       where
         not_yet : (w : ℕ) → found.0 < w → w < u → (w < ends.0 + 1 + n) ⊎ (ends.0 + 1 + n ≤ w) → ¬ LiesOn K vertices s w
         not_yet w more less (inl before) = found.1.none_since w more before
@@ -267,15 +273,17 @@ module _ {A : Type 0} (K : OrderedRing A) (vertices : List (Point A)) (points : 
     pub last_joins : (w : ℕ) × JoinsNext K vertices s w ends.1
     last_joins =
         let found = last_before (ends.1 - (ends.0 + 1)) ends.1 (let x = h.in_order in omega (arith, x)) (omega arith) in
-        let last = found.1 in
-        (found.0, record {
-          proper = proper;
-          in_order = last.before;
-          in_range = h.in_range;
-          first = last.on;
-          second = second_on;
-          nothing_between = last.none_since;
-        })
+        let last = found.1 in (
+          found.0,
+          record {
+            proper = proper;
+            in_order = last.before;
+            in_range = h.in_range;
+            first = last.on;
+            second = second_on;
+            nothing_between = last.none_since;
+          },
+        )
 
   -- the places of two different ends, in order
   pub ends_of : (a b low high : ℕ) → IsProper K s → IsPlaceOf K vertices s.from a → IsPlaceOf K vertices s.to b → low ≡ min a b → high ≡ max a b → HasEndsAt K vertices s (low, high)

@@ -3,21 +3,19 @@ use mathlib.Core.Path.{◌≡◌, refl, sym, ap, subst, ◌∙◌}
 use mathlib.Core.List.{List, [], ◌∷◌, ◌++◌}
 use mathlib.Core.Logic.{◌⊎◌, inl, inr}
 use native.Mathlib.Omega.{arith}
-use Rattle.std.specs.Prelude.{ℕ, ◌+◌, ◌<◌, ◌≤◌, Contains, All, IsSomeAnd, IsTrue, Option, None, Some, length}
+use Rattle.std.specs.Prelude.{ℕ, ◌+◌, ◌<◌, ◌≤◌, Contains, IsSomeAnd, Option, None, Some, length}
 use Rattle.std.proofs.lemmas.Bool.{cases_lt, cases_order}
 use Rattle.std.proofs.Common.{append_assoc}
 use Rattle.std.specs.List.{AllByRecursion}
-use Rattle.std.proofs.lemmas.List.Elements.{All-contains, All-from_recursion, Contains-append_left, Contains-push, Contains-push_cases, recursion_from_All}
+use Rattle.std.proofs.lemmas.List.Elements.{All-from_recursion, Contains-append_left, Contains-push, Contains-push_cases}
 use Rattle.std.specs.BTreeMap.{BTreeMap, get}
-use Rattle.fold_base.specs.declared.letter.Letter.{Letter}
 use Rattle.algebra.specs.OrderedRing.{OrderedRing}
 use Rattle.plane.specs.declared.point.Point.{Point}
 use Rattle.plane.proofs.Members.{in_head, in_tail}
 use Rattle.scaled_plane.specs.declared.point.Segment.{Segment}
 use Rattle.scaled_plane.specs.Pieces.{IsProper}
 use Rattle.arrangement.specs.declared.covers.Cover.{Cover}
-use Rattle.arrangement.specs.Covers.{Adds, HasCovers, HasCoversBefore, HasEndsAt, IsCover, IsFirstJoining, IsKnown, IsLastOn, JoinsNext, LiesOn, piece_order}
-use Rattle.arrangement.specs.Letters.{has}
+use Rattle.arrangement.specs.Covers.{Adds, HasCovers, HasCoversBefore, HasEndsAt, IsKnown, IsLastOn, JoinsNext, LiesOn, piece_order}
 
 module _ {A : Type 0} (K : OrderedRing A) (vertices : List (Point A)) (segments : List (Segment A)) (s : Segment A) (a b : ℕ) where
   -- a segment that joins them not changes nothing
@@ -28,12 +26,12 @@ module _ {A : Type 0} (K : OrderedRing A) (vertices : List (Point A)) (segments 
   ]
   known_not (Some cover) n h = record {
     letters = λ l. (
-        λ e. let r = (h.letters l).0 e in (r.0, Contains-append_left segments (s ∷ []) r.0 r.1, r.2, r.3),
-        λ r. elim (Contains-push_cases segments s r.0 r.1) [
-          | inl i ↦ (h.letters l).1 (r.0, i, r.2, r.3)
-          | inr e ↦ absurd (n (subst (λ u. JoinsNext K vertices u a b) (sym e) r.2))
-        ],
-      );
+      λ e. let r = (h.letters l).0 e in (r.0, Contains-append_left segments (s ∷ []) r.0 r.1, r.2, r.3),
+      λ r. elim (Contains-push_cases segments s r.0 r.1) [
+        | inl i ↦ (h.letters l).1 (r.0, i, r.2, r.3)
+        | inr e ↦ absurd (n (subst (λ u. JoinsNext K vertices u a b) (sym e) r.2))
+      ],
+    );
     line_is = record {
       before = h.line_is.before;
       after = h.line_is.after ++ s ∷ [];
@@ -50,12 +48,12 @@ module _ {A : Type 0} (K : OrderedRing A) (vertices : List (Point A)) (segments 
       → IsKnown K vertices segments a b known → IsKnown K vertices (segments ++ s ∷ []) a b (Some cover)
   known_added None cover ends j at adds h = record {
     letters = λ l. (
-        λ e. elim ((adds.letters l).0 e) [ inl n ↦ absurd n | inr f ↦ (s, Contains-push segments s, j, sym f) ],
-        λ r. elim (Contains-push_cases segments s r.0 r.1) [
-          | inl i ↦ absurd (h r.0 i r.2)
-          | inr e ↦ (adds.letters l).1 (inr (sym r.3 ∙ ap (λ u. u.letter) (sym e)))
-        ],
-      );
+      λ e. elim ((adds.letters l).0 e) [ inl n ↦ absurd n | inr f ↦ (s, Contains-push segments s, j, sym f) ],
+      λ r. elim (Contains-push_cases segments s r.0 r.1) [
+        | inl i ↦ absurd (h r.0 i r.2)
+        | inr e ↦ (adds.letters l).1 (inr (sym r.3 ∙ ap (λ u. u.letter) (sym e)))
+      ],
+    );
     line_is = record {
       before = segments;
       after = [];
@@ -72,15 +70,15 @@ module _ {A : Type 0} (K : OrderedRing A) (vertices : List (Point A)) (segments 
       none (x ∷ xs) f = (f x (in_head x xs), none xs (λ t c. f t (in_tail x xs t c)))
   known_added (Some known) cover ends j at adds h = record {
     letters = λ l. (
-        λ e. elim ((adds.letters l).0 e) [
-          | inl k ↦ let r = (h.letters l).0 k in (r.0, Contains-append_left segments (s ∷ []) r.0 r.1, r.2, r.3)
-          | inr f ↦ (s, Contains-push segments s, j, sym f)
-        ],
-        λ r. elim (Contains-push_cases segments s r.0 r.1) [
-          | inl i ↦ (adds.letters l).1 (inl ((h.letters l).1 (r.0, i, r.2, r.3)))
-          | inr e ↦ (adds.letters l).1 (inr (sym r.3 ∙ ap (λ u. u.letter) (sym e)))
-        ],
-      );
+      λ e. elim ((adds.letters l).0 e) [
+        | inl k ↦ let r = (h.letters l).0 k in (r.0, Contains-append_left segments (s ∷ []) r.0 r.1, r.2, r.3)
+        | inr f ↦ (s, Contains-push segments s, j, sym f)
+      ],
+      λ r. elim (Contains-push_cases segments s r.0 r.1) [
+        | inl i ↦ (adds.letters l).1 (inl ((h.letters l).1 (r.0, i, r.2, r.3)))
+        | inr e ↦ (adds.letters l).1 (inr (sym r.3 ∙ ap (λ u. u.letter) (sym e)))
+      ],
+    );
     line_is = record {
       before = h.line_is.before;
       after = h.line_is.after ++ s ∷ [];

@@ -1,9 +1,9 @@
 -- Lists seen through a function of their elements.
-use mathlib.Core.Path.{◌≡◌, refl, sym, ap, subst, ◌∙◌}
+use mathlib.Core.Path.{◌≡◌, sym, ap, subst, ◌∙◌}
 use mathlib.Core.List.{List, [], ◌∷◌, ◌++◌, map}
 use Prim.Native.Nat.{ℕ, ◌<◌}
 use Rattle.std.proofs.Common.{inl, inr}
-use Rattle.std.specs.Prelude.{◌⊎◌, Contains, length, slice_index_or}
+use Rattle.std.specs.Prelude.{Contains, length, slice_index_or}
 use Rattle.std.specs.List.{AllZip}
 use Rattle.std.proofs.lemmas.List.{get_or-map, length-map}
 use Rattle.plane.proofs.Members.{in_cons, in_head, in_nil, in_tail}

@@ -1,6 +1,6 @@
 -- The letter that is left of several depends on these alone, and is one.
 use mathlib.Core.Path.{◌≡◌, sym, ◌∙◌}
-use mathlib.Core.Logic.{◌⊎◌, inl, inr}
+use mathlib.Core.Logic.{inl, inr}
 use Rattle.std.specs.Prelude.{◌↔◌}
 use Rattle.fold_base.specs.declared.letter.Letter.{Letter}
 use Rattle.fold_base.specs.declared.letter.Letter.TheVariants.{Border, Mountain, Valley, Flat, Unassigned, Cut, Join}

@@ -1,5 +1,5 @@
 -- Points of one line in their order, and lines that are parallel and share a point.
-use mathlib.Core.Path.{◌≡◌, refl, sym, ap, subst, ◌∙◌}
+use mathlib.Core.Path.{◌≡◌, refl, sym, ap, ◌∙◌}
 use mathlib.Core.List.{[], ◌∷◌}
 use mathlib.Core.Logic.{◌⊎◌, inl, inr}
 use lib.IntN.{pos}
@@ -14,7 +14,7 @@ use Rattle.plane.specs.declared.point.Point.{Point}
 use Rattle.plane.specs.declared.point.Line.{Line}
 use Rattle.plane.specs.Points.{IsPoint, IsSamePoint, point_order}
 use Rattle.plane.specs.Lines.{line, side, value}
-use Rattle.plane.specs.Segments.{IsBetween, IsOn}
+use Rattle.plane.specs.Segments.{IsBetween}
 use Rattle.plane.specs.Directions.{AreParallel, direction, turn}
 use Rattle.plane.proofs.Along.{between_of_on, in_line, on_of_between}
 use Rattle.plane.proofs.Lines.{from_x, from_x_itself, from_y, from_y_itself, lines_of_same, same_by_lines, same_turned, swapped}
@@ -67,6 +67,7 @@ module _ {A : Type 0} (K : OrderedRing A) where
     | inr (inl e) ↦ sym (order_same_right K q r p hq hr e) ∙ less
     | inr (inr h) ↦ absurd (upto_not_before q r le h)
   ]
+
   -- ---- between
 
   -- a line that is zero at p and at a point between p and q is zero at q

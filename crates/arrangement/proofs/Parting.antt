@@ -1,13 +1,12 @@
 -- Two different pieces meet in ends alone.
-use mathlib.Core.Path.{◌≡◌, refl, sym, ap, subst, ◌∙◌}
-use mathlib.Core.List.{List, [], ◌∷◌}
+use mathlib.Core.Path.{◌≡◌, refl, sym, ◌∙◌}
+use mathlib.Core.List.{List}
 use mathlib.Core.Logic.{◌⊎◌, inl, inr}
-use Rattle.std.specs.Prelude.{Contains}
 use Rattle.std.specs.declared.cmp.Ordering.{Ordering}
 use Rattle.std.specs.declared.cmp.Ordering.TheVariants.{Less, Equal, Greater}
 use Rattle.algebra.specs.OrderedRing.{OrderedRing}
 use Rattle.plane.specs.declared.point.Point.{Point}
-use Rattle.plane.specs.Points.{IsPoint, IsSamePoint, point_order}
+use Rattle.plane.specs.Points.{IsPoint, IsSamePoint}
 use Rattle.plane.specs.Lines.{side}
 use Rattle.plane.specs.Segments.{IsBetween, IsEnd, IsOn, MeetInEnds}
 use Rattle.plane.specs.Directions.{AreParallel, direction, turn}
@@ -17,7 +16,7 @@ use Rattle.plane.proofs.OnSegments.{between_is_on, on_between, on_is_between}
 use Rattle.plane.proofs.Order.{order_chain, order_same_right}
 use Rattle.plane.proofs.Shares.{side_of_on}
 use Rattle.scaled_plane.specs.declared.point.Segment.{Segment}
-use Rattle.scaled_plane.specs.Pieces.{IsPiece, IsVertex}
+use Rattle.scaled_plane.specs.Pieces.{IsPiece}
 use Rattle.arrangement.proofs.OnLines.{Before, Upto, apart, between_on_line, on_other_line, order_of_between, then_upto, three_orders, upto_then}
 
 module _ {A : Type 0} (K : OrderedRing A) where

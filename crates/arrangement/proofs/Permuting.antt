@@ -1,9 +1,9 @@
 -- How many pairs of segments share an x doesn't depend on their order.
-use mathlib.Core.Path.{◌≡◌, refl, sym, ap, ap₂, subst, ◌∙◌}
+use mathlib.Core.Path.{◌≡◌, refl, sym, ap, ap₂, ◌∙◌}
 use mathlib.Core.List.{List, [], ◌∷◌}
 use mathlib.Core.Bool.{Bool, true, false}
 use native.Mathlib.Omega.{arith}
-use Rattle.std.specs.Prelude.{◌&&◌, ℕ, ◌+◌, ◌*◌, ℤ, cond, count_by, filter, length, sum_by, Contains}
+use Rattle.std.specs.Prelude.{◌&&◌, ℕ, ◌+◌, cond, filter, length, sum_by}
 use Rattle.std.specs.List.Sorted.{IsPermutation}
 use Rattle.std.specs.Ordering.{is_le}
 use Rattle.std.proofs.lemmas.List.Sorted.{Contains-permutation, IsPermutation-sym, length_permutation, sum_by-IsPermutation}
@@ -13,7 +13,6 @@ use Rattle.scaled_plane.specs.declared.point.Segment.{Segment}
 use Rattle.scaled_plane.specs.Counts.{left_end, pairs_sharing_x, right_end, share_x, x_order}
 use Rattle.arrangement.specs.Spans.{is_proper}
 use Rattle.arrangement.proofs.Filtered.{HasProper, in_filter, of_filter, passes, proper}
-use Rattle.arrangement.proofs.Sharing.{both_true}
 
 both_ways : (a b : Bool) → (a && b) ≡ (b && a)
 both_ways true true = refl

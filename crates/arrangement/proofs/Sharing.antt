@@ -72,9 +72,9 @@ module _ {A : Type 0} (K : OrderedRing A) where
       → Upto (if o then a else b) p × Upto p (if o then b else a)
   between_by a b p true ha hb hp on e =
       let h = shares K hp on in (
-    from_first a b p h.s h.t ha hb hp h.s_from_zero h.t_from_zero h.not_both_zero h.is e,
-    to_second a b p h.s h.t ha hb hp h.s_from_zero h.t_from_zero h.not_both_zero h.is e,
-  )
+        from_first a b p h.s h.t ha hb hp h.s_from_zero h.t_from_zero h.not_both_zero h.is e,
+        to_second a b p h.s h.t ha hb hp h.s_from_zero h.t_from_zero h.not_both_zero h.is e,
+      )
   between_by a b p false ha hb hp on e =
       let turned : Upto b a = ap is_le (x_turned K a b ∙ ap ordering_reverse (le_of_not_le (x_order K a b) e)) in
       let k = shares K hp (on_turned K on) in (

@@ -1,12 +1,12 @@
 -- Segments in the order of their left ends: those that share an x with one of them come next after it, and then none.
 use mathlib.Core.Path.{◌≡◌, refl, sym, ap, subst, ◌∙◌}
-use mathlib.Core.List.{List, [], ◌∷◌, ◌++◌, map}
+use mathlib.Core.List.{List, [], ◌∷◌, map}
 use mathlib.Core.Bool.{Bool, true, false}
 use native.Mathlib.Omega.{arith}
 use Rattle.std.proofs.Common.{inl, inr}
 use Rattle.std.specs.Prelude.{◌⊎◌, ◌&&◌, if◌then◌else◌, IsTrue, ℕ, ◌+◌, ◌-◌, ◌<◌, ◌≤◌, ℤ, All, AllPairs, Contains, cond, count_by, drop, length, slice_index_or, take}
 use Rattle.std.specs.List.{AllWithin}
-use Rattle.std.specs.List.Sorted.{IsPartitionedBy, IsPermutation, IsSorted}
+use Rattle.std.specs.List.Sorted.{IsPartitionedBy, IsSorted}
 use Rattle.std.specs.Ordering.{is_le, is_lt, ordering_then, ordering_reverse}
 use Rattle.std.specs.declared.cmp.Ordering.{Ordering}
 use Rattle.std.specs.declared.cmp.Ordering.TheVariants.{Less, Equal, Greater}
@@ -19,10 +19,10 @@ use Rattle.algebra.specs.OrderedRing.{OrderedRing}
 use Rattle.algebra.specs.Surd.{Surd}
 use Rattle.algebra.specs.WholeSurds.{SurdNumbers}
 use Rattle.plane.specs.declared.point.Point.{Point}
-use Rattle.plane.specs.Points.{IsPoint, point_order, x_from}
+use Rattle.plane.specs.Points.{IsPoint, point_order}
 use Rattle.plane.proofs.Order.{SomePoint, order_turned, points_total, x_turned}
 use Rattle.scaled_plane.specs.declared.point.Segment.{Segment}
-use Rattle.scaled_plane.specs.Counts.{left_end, right_end, share_x, x_order, pairs_sharing_x}
+use Rattle.scaled_plane.specs.Counts.{left_end, right_end, share_x, x_order}
 use Rattle.scaled_plane.proofs.DrawnSizes.{scaled_point}
 use Rattle.arrangement.specs.Found.{Grows, HasCrossing, IsCrossedBy, IsUsable}
 use Rattle.arrangement.specs.Spans.{IsSpan}

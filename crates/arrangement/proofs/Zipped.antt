@@ -2,15 +2,13 @@
 use mathlib.Core.Path.{◌≡◌, refl, sym, ap, subst, ◌∙◌}
 use mathlib.Core.List.{List, [], ◌∷◌, map}
 use mathlib.Core.Logic.{◌⊎◌, inl, inr}
-use Prim.Native.Nat.{zero, suc}
 use native.Mathlib.Omega.{arith}
-use Rattle.std.specs.Prelude.{ℕ, ◌+◌, ◌*◌, ◌<◌, ◌≤◌, Contains, All, Some, length, slice_get, slice_index_or}
+use Rattle.std.specs.Prelude.{ℕ, ◌+◌, ◌*◌, ◌<◌, ◌≤◌, Contains, Some, length, slice_get}
 use Rattle.std.specs.List.{AllByRecursion, AllZip}
 use Rattle.std.specs.List.Sorted.{IsStrictlySortedBy}
 use Rattle.std.specs.Map.{keys_of}
 use Rattle.std.specs.Ordering.{nat_cmp, ordering_then}
 use Rattle.std.specs.Cmp.{nat_cmp_is}
-use Rattle.std.specs.declared.cmp.Ordering.{Ordering}
 use Rattle.std.specs.declared.cmp.Ordering.TheVariants.{Less, Equal, Greater}
 use Rattle.std.proofs.lemmas.Bool.{cases_order}
 use Rattle.std.proofs.lemmas.List.{length-map}
@@ -88,10 +86,10 @@ edges_sorted (q ∷ qs) (f ∷ fs) z h = (after q f qs fs z.0 z.1 h.0, edges_sor
 first_or_both : (a b c d : ℕ) → ordering_then (nat_cmp a b) (nat_cmp c d) ≡ Less → (a < b) ⊎ ((a ≡ b) × (c < d))
 first_or_both a b c d h = elim (cases_order a b) [
   | inl e ↦ elim (cases_order c d) [
-      | inl f ↦ absurd (let no : Less ≡ Equal = sym h ∙ ap (λ o. ordering_then o (nat_cmp c d)) (sym (nat_cmp_is a b Equal e)) ∙ sym (nat_cmp_is c d Equal f) in cc)
-      | inr (inl less) ↦ inr (e, less)
-      | inr (inr more) ↦ absurd (let no : Less ≡ Greater = sym h ∙ ap (λ o. ordering_then o (nat_cmp c d)) (sym (nat_cmp_is a b Equal e)) ∙ sym (nat_cmp_is c d Greater more) in cc)
-    ]
+    | inl f ↦ absurd (let no : Less ≡ Equal = sym h ∙ ap (λ o. ordering_then o (nat_cmp c d)) (sym (nat_cmp_is a b Equal e)) ∙ sym (nat_cmp_is c d Equal f) in cc)
+    | inr (inl less) ↦ inr (e, less)
+    | inr (inr more) ↦ absurd (let no : Less ≡ Greater = sym h ∙ ap (λ o. ordering_then o (nat_cmp c d)) (sym (nat_cmp_is a b Equal e)) ∙ sym (nat_cmp_is c d Greater more) in cc)
+  ]
   | inr (inl less) ↦ inl less
   | inr (inr more) ↦ absurd (let no : Less ≡ Greater = sym h ∙ ap (λ o. ordering_then o (nat_cmp c d)) (sym (nat_cmp_is a b Greater more)) in cc)
 ]

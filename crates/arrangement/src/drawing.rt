@@ -23,10 +23,7 @@ use std::alloc::{AllocError, Global};
 use std::sync::ledger::Ledger;
 
 /// The points of vertices.
-fn points_of<W: Whole>(
-    alloc: Global,
-    vertices: &[Vertex<W>],
-) -> Result<List<Point<W>>, AllocError>
+fn points_of<W: Whole>(alloc: Global, vertices: &[Vertex<W>]) -> Result<List<Point<W>>, AllocError>
     ensures { IfOk result (λ points. points ≡ map (λ v. v.point) vertices.now) }
 {
     let mut points = List::with_room(alloc, vertices.len())?;

@@ -54,11 +54,23 @@ impl Letters {
         ensures { (l : AnyLetter) → IsTrue (has result l) ↔ (IsTrue (has self l) ⊎ (l ≡ letter)) }
     {
         match letter {
-            Letter::Border => Letters { border: true, ..self },
-            Letter::Mountain => Letters { mountain: true, ..self },
-            Letter::Valley => Letters { valley: true, ..self },
+            Letter::Border => Letters {
+                border: true,
+                ..self
+            },
+            Letter::Mountain => Letters {
+                mountain: true,
+                ..self
+            },
+            Letter::Valley => Letters {
+                valley: true,
+                ..self
+            },
             Letter::Flat => Letters { flat: true, ..self },
-            Letter::Unassigned => Letters { unassigned: true, ..self },
+            Letter::Unassigned => Letters {
+                unassigned: true,
+                ..self
+            },
             Letter::Cut => Letters { cut: true, ..self },
             Letter::Join => Letters { join: true, ..self },
         }

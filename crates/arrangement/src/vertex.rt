@@ -22,7 +22,7 @@ impl<W: Whole> PartialEq for Vertex<W> {
     ghost eq = { λ v w. eq_by_cmp (λ p q. point_order W.numbers.ring p q) v.point w.point };
 
     fn eq(&self, other: &Vertex<W>) -> bool {
-        compare_sized(self.point, other.point) == Ordering::Equal
+        self.cmp(other).is_eq()
     }
 
     ghost laws = { partial_equiv_from_equiv (eq_by_cmp_equiv (on_total (λ v. (v.point, v.is_point)) (points_total W.numbers.ring))) };

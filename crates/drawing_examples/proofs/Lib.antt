@@ -8,3 +8,4 @@ pub mod Following
 pub mod Flaws
 pub mod Walking
 pub mod Triangle
+pub mod Counted

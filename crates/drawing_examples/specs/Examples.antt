@@ -1,7 +1,9 @@
 -- Small drawings over the whole numbers: what they are cut into, and which piece follows which.
-use Rattle.std.specs.Prelude.{ℕ, ℤ, pos, List}
+use Prim.Native.Nat.{zero, suc}
+use Rattle.std.specs.Prelude.{ℕ, ℤ, pos, List, [], ◌∷◌}
 use Rattle.std.specs.List.{AllByRecursion}
 use Rattle.fold_base.specs.declared.letter.Letter.{Letter}
+use Rattle.fold_base.specs.declared.letter.Letter.TheVariants.{Mountain}
 use Rattle.algebra.proofs.Integers.{integers}
 use Rattle.plane.specs.declared.point.Point.{Point}
 use Rattle.scaled_plane.specs.declared.point.Segment.{Segment}
@@ -20,6 +22,14 @@ over x y w = record { x = x; y = y; w = w }
 
 abbrev pub crease : Letter → Point ℤ → Point ℤ → Segment ℤ
 crease letter p q = record { from = p; to = q; letter = letter }
+
+-- the segment from (n, 0) to (n, 1), and such segments for all numbers below n
+abbrev pub upright : ℕ → Segment ℤ
+upright n = crease Mountain (at (pos n) (pos 0)) (at (pos n) (pos 1))
+
+abbrev pub uprights : ℕ → List (Segment ℤ)
+uprights zero = []
+uprights (suc n) = upright n ∷ uprights n
 
 abbrev pub edge : ℕ → ℕ → Letter → Edge
 edge u v letter = record { from = u; to = v; letter = letter }

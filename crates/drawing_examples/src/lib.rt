@@ -2,14 +2,14 @@
 //! drawings say of them.
 #![tactic(auto)]
 
-ghost use Rattle.std.specs.Prelude.{◌≡◌, pos, negsuc, [], ◌∷◌};
+ghost use Rattle.std.specs.Prelude.{◌≡◌, ℕ, pos, negsuc, [], ◌∷◌};
 ghost use Rattle.fold_base.specs.declared.letter.Letter.TheVariants.{Border, Mountain, Unassigned, Valley};
 ghost use Rattle.algebra.proofs.Integers.{integers};
 ghost use Rattle.scaled_plane.specs.Counts.{tests_for};
 ghost use Rattle.scaled_plane.specs.Sheets.{HasFlaw, IsSheet};
 ghost use Rattle.regions.specs.Triangle.{corners, sides};
 ghost use Rattle.scaled_plane.specs.declared.sheet.SheetFlaw.TheVariants.{SameVertex, Loose, NotPlane, Parted, EmptySheet, FaceWrong, FaceMissing, NotConvex, BorderWrong, Pinched, Severed};
-ghost use Rattle.drawing_examples.specs.Examples.{AreCutInto, FollowAs, at, crease, edge, face, over};
+ghost use Rattle.drawing_examples.specs.Examples.{AreCutInto, FollowAs, at, crease, edge, face, over, uprights};
 
 /// What small drawings are cut into: their vertices in order, their pieces with the letters that are left of those that cover
 /// each, and the line of each piece.
@@ -76,12 +76,11 @@ pub fn small_drawings()
         ((0, 2) ∷ (0, 5) ∷ (0, 2) ∷ (1, 4) ∷ (2, 7) ∷ (1, 4) ∷ (3, 6) ∷ (5, 7) ∷ (5, 7) ∷ []) }
 {}
 
-/// How many pairs of segments share an x. Of the diagonals of a square only its two upright borders don't.
-pub fn counted_pairs()
+/// How many tests of two segments a sweep makes. The two upright borders of the crossed square share no x, nor do any number
+/// of upright segments side by side.
+pub fn tests_counted()
     ensures single_point { tests_for integers (crease Mountain (at (pos 1) (pos 1)) (at (pos 1) (pos 1)) ∷
         crease Mountain (at (pos 0) (pos 0)) (at (pos 2) (pos 2)) ∷ []) ≡ 0 }
-    ensures upright { tests_for integers (crease Mountain (at (pos 0) (pos 0)) (at (pos 0) (pos 1)) ∷
-        crease Mountain (at (pos 1) (pos 0)) (at (pos 1) (pos 1)) ∷ crease Mountain (at (pos 2) (pos 1)) (at (pos 2) (pos 0)) ∷ []) ≡ 0 }
     ensures one_x { tests_for integers (crease Mountain (at (pos 0) (pos 0)) (at (pos 1) (pos 0)) ∷
         crease Mountain (at (pos 2) (pos 5)) (at (pos 1) (pos 4)) ∷ []) ≡ 1 }
     ensures diagonals { tests_for integers
@@ -90,7 +89,9 @@ pub fn counted_pairs()
         crease Border (at (pos 1) (pos 1)) (at (pos 0) (pos 1)) ∷
         crease Border (at (pos 0) (pos 1)) (at (pos 0) (pos 0)) ∷
         crease Mountain (at (pos 0) (pos 0)) (at (pos 1) (pos 1)) ∷
-        crease Valley (at (pos 0) (pos 1)) (at (pos 1) (pos 0)) ∷ []) ≡ 14 }
+        crease Valley (at (pos 0) (pos 1)) (at (pos 1) (pos 0)) ∷ [])
+        ≡ 14 }
+    ensures uprights { (n : ℕ) → tests_for integers (uprights n) ≡ 0 }
 {}
 
 /// Which directed piece comes after which: after the one from u to v, for each u, v, w of a list, the one from v to w. Each

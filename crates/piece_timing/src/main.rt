@@ -126,18 +126,17 @@ fn push_segment<W: Whole>(segments: &mut List<Segment<W>>, way: Way) -> Result<(
 }
 
 /// The segments of a drawing.
-fn drawn<W: Whole>(
-    alloc: Global,
-    drawing: &str,
-    count: u32,
-) -> Result<List<Segment<W>>, AllocError>
+fn drawn<W: Whole>(alloc: Global, drawing: &str, count: u32) -> Result<List<Segment<W>>, AllocError>
     requires { count ≤ 2048 }
     ensures { IfOk result (All (IsScaledSegment W.numbers)) }
 {
     let mut segments = List::new(alloc);
     let mut dice = Dice { state: 1 };
     for i in 0..count {
-        push_segment(&mut segments, way(drawing, count as i128, i as i128, &mut dice))?;
+        push_segment(
+            &mut segments,
+            way(drawing, count as i128, i as i128, &mut dice),
+        )?;
     }
     Ok(segments)
 }

@@ -25,8 +25,11 @@ type Spot = (i128, i128, i128);
 type Piece = (u32, u32, Letter);
 
 const M: Letter = Letter::Mountain;
+
 const V: Letter = Letter::Valley;
+
 const B: Letter = Letter::Border;
+
 const U: Letter = Letter::Unassigned;
 
 /// The vertices, the edges and their lines.
@@ -38,10 +41,7 @@ struct Told {
 }
 
 /// Appends a segment, if it's small enough.
-fn push_crease<W: Whole>(
-    segments: &mut List<Segment<W>>,
-    crease: Crease,
-) -> Result<(), AllocError>
+fn push_crease<W: Whole>(segments: &mut List<Segment<W>>, crease: Crease) -> Result<(), AllocError>
     ensures { OnOk result (All (IsScaledSegment W.numbers) segments.old → All (IsScaledSegment W.numbers) segments.new) }
 {
     match segment(crease.0, crease.1, crease.2) {
@@ -147,19 +147,48 @@ fn diagonals_cut_each_other(rt: HostRuntime) -> Result<(), Fail> {
         (2, 4, M),
         (3, 4, B),
     ];
-    let lines = [(0, 1), (0, 4), (0, 3), (1, 3), (1, 4), (1, 3), (0, 4), (3, 4)];
+    let lines = [
+        (0, 1),
+        (0, 4),
+        (0, 3),
+        (1, 3),
+        (1, 4),
+        (1, 3),
+        (0, 4),
+        (3, 4),
+    ];
     check(&rt, &creases, &vertices, &edges, &lines)
 }
 
 #[test]
 fn covered_pieces_stand_once(rt: HostRuntime) -> Result<(), Fail> {
     // two letters on one piece, and the first segment's line
-    let creases = [((0, 0), (3, 0), M), ((1, 0), (2, 0), V), ((2, 0), (1, 0), M)];
+    let creases = [
+        ((0, 0), (3, 0), M),
+        ((1, 0), (2, 0), V),
+        ((2, 0), (1, 0), M),
+    ];
     let vertices = [(0, 0, 1), (1, 0, 1), (2, 0, 1), (3, 0, 1)];
-    check(&rt, &creases, &vertices, &[(0, 1, M), (1, 2, U), (2, 3, M)], &[(0, 3), (0, 3), (0, 3)])?;
+    check(
+        &rt,
+        &creases,
+        &vertices,
+        &[(0, 1, M), (1, 2, U), (2, 3, M)],
+        &[(0, 3), (0, 3), (0, 3)],
+    )?;
     // a segment and its reverse; a point is no segment
-    let creases = [((0, 0), (1, 0), M), ((1, 0), (0, 0), M), ((5, 5), (5, 5), V)];
-    check(&rt, &creases, &[(0, 0, 1), (1, 0, 1)], &[(0, 1, M)], &[(0, 1)])?;
+    let creases = [
+        ((0, 0), (1, 0), M),
+        ((1, 0), (0, 0), M),
+        ((5, 5), (5, 5), V),
+    ];
+    check(
+        &rt,
+        &creases,
+        &[(0, 0, 1), (1, 0, 1)],
+        &[(0, 1, M)],
+        &[(0, 1)],
+    )?;
     check(&rt, &[((5, 5), (5, 5), V)], &[], &[], &[])?;
     check(&rt, &[], &[], &[], &[])
 }
@@ -195,7 +224,17 @@ fn overlaps_are_merged(rt: HostRuntime) -> Result<(), Fail> {
         (5, 6, B),
         (6, 7, B),
     ];
-    let lines = [(0, 2), (0, 5), (0, 2), (1, 4), (2, 7), (1, 4), (3, 6), (5, 7), (5, 7)];
+    let lines = [
+        (0, 2),
+        (0, 5),
+        (0, 2),
+        (1, 4),
+        (2, 7),
+        (1, 4),
+        (3, 6),
+        (5, 7),
+        (5, 7),
+    ];
     check(&rt, &creases, &vertices, &edges, &lines)
 }
 
@@ -247,7 +286,10 @@ fn thousands_of_segments_are_one_piece(rt: HostRuntime) -> Result<(), Fail> {
             creases.push(((0, 0), (1, 0), M))?;
         }
         creases.push(((0, 0), (1, 0), last))?;
-        let told = told_of(rt.alloc(), &drawing_of::<RationalRing>(rt.alloc(), &creases)?)?;
+        let told = told_of(
+            rt.alloc(),
+            &drawing_of::<RationalRing>(rt.alloc(), &creases)?,
+        )?;
         assert_eq!(rt; told.edges.as_slice(), [(0, 1, merged)].as_slice());
     }
     Ok(())

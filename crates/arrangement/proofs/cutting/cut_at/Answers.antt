@@ -1,5 +1,4 @@
 use Rattle.std.proofs.Common.{◌≡◌, ◌∙◌, ap, arith, map, slice_index_or, sym}
-use Rattle.std.proofs.lemmas.List.{length-map}
 use Rattle.std.specs.Ordering.{is_eq}
 use Rattle.plane.specs.Lines.{line, side, value}
 use Rattle.scaled_plane.proofs.DrawnSizes.{scaled_point}

@@ -1,5 +1,4 @@
-use Rattle.std.proofs.Common.{◌≡◌, ◌∙◌, true, false, map, sym}
-use Rattle.arrangement.specs.Spans.{is_proper}
+use Rattle.std.proofs.Common.{◌∙◌, map, sym}
 use Rattle.arrangement.proofs.Filtered.{not_proper, proper}
 use Rattle.arrangement.proofs.Knowing.{none_of_improper}
 use Rattle.arrangement.proofs.cutting.cut_proper.Goals as goal

@@ -11,9 +11,9 @@ loop-place-init g c =
     let P = (map (λ v. v.point) c.args.vertices.now) in
     record {
       last = first_last g.W.Whole.numbers.ring P (all_points g.W.Whole.numbers.ring (λ v. v.point) (λ v. v.is_point) c.args.vertices.now) c.requires.sorted c.args.s
-    (scaled_point g.W.Whole.numbers c.args.s.from c.requires.usable.from) (scaled_point g.W.Whole.numbers c.args.s.to c.requires.usable.to) c.cut_of-cut.result.ends c.cut_of-cut.ensures.ends;
+          (scaled_point g.W.Whole.numbers c.args.s.from c.requires.usable.from) (scaled_point g.W.Whole.numbers c.args.s.to c.requires.usable.to) c.cut_of-cut.result.ends c.cut_of-cut.ensures.ends;
       covers = λ segments before. none_yet g.W.Whole.numbers.ring P segments c.args.s (c.cut_of-cut.result.ends.0 + 1) c.args.covers.now (none_below g.W.Whole.numbers.ring P (all_points g.W.Whole.numbers.ring (λ v. v.point) (λ v. v.is_point) c.args.vertices.now) c.requires.sorted c.args.s
-    (scaled_point g.W.Whole.numbers c.args.s.from c.requires.usable.from) (scaled_point g.W.Whole.numbers c.args.s.to c.requires.usable.to) c.cut_of-cut.result.ends c.cut_of-cut.ensures.ends) before;
+          (scaled_point g.W.Whole.numbers c.args.s.from c.requires.usable.from) (scaled_point g.W.Whole.numbers c.args.s.to c.requires.usable.to) c.cut_of-cut.result.ends c.cut_of-cut.ensures.ends) before;
     }
 
 pub loop-place-preserved : goal.loop-place-preserved

@@ -1,6 +1,4 @@
-use Rattle.std.proofs.Common.{◌≡◌, map, subst, sym}
-use Rattle.std.specs.declared.cmp.Ordering.TheVariants.{Equal}
-use Rattle.plane.specs.Points.{point_order}
+use Rattle.std.proofs.Common.{map, subst, sym}
 use Rattle.arrangement.specs.Covers.{IsPlaceOf}
 use Rattle.arrangement.specs.Found.{Has}
 use Rattle.arrangement.proofs.Searching.{none_missed, place_found}

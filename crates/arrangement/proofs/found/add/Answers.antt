@@ -1,7 +1,7 @@
-use Rattle.std.proofs.Common.{◌≡◌, subst, sym, map}
+use Rattle.std.proofs.Common.{◌≡◌, subst, map}
 use Rattle.arrangement.specs.Found.{Grows, Has}
 use Rattle.arrangement.proofs.Adding.{insert_grows, insert_here, where_false}
-use Rattle.arrangement.proofs.Growing.{grows_not, map_sorted}
+use Rattle.arrangement.proofs.Growing.{map_sorted}
 use Rattle.arrangement.proofs.found.add.Goals as goal
 
 pub returns-in-Ok-clause-grows : goal.returns-in-Ok-clause-grows

@@ -1,4 +1,4 @@
-use Rattle.std.proofs.Common.{map, subst, sym, arith, length, ◌≤◌}
+use Rattle.std.proofs.Common.{map, subst, arith, length, ◌≤◌}
 use Rattle.std.specs.Prelude.{Contains}
 use Rattle.std.proofs.lemmas.List.{length-map, take_all}
 use Rattle.plane.proofs.Members.{in_nil}

@@ -1,8 +1,7 @@
 use Rattle.std.proofs.Common.{map, subst}
-use Rattle.std.specs.Prelude.{filter}
 use Rattle.std.specs.List.Sorted.{IsPermutation}
 use Rattle.std.proofs.lemmas.List.Sorted.{All-permutation, IsPermutation-map}
-use Rattle.arrangement.specs.Spans.{IsSpan, is_proper}
+use Rattle.arrangement.specs.Spans.{IsSpan}
 use Rattle.arrangement.proofs.Sweeping.{sorted_pairs}
 use Rattle.arrangement.proofs.span.spans_of.Goals as goal
 

@@ -1,4 +1,4 @@
-use Rattle.std.proofs.Common.{◌≡◌, ◌∙◌, ◌≤◌, map, arith, ap, sym, subst, refl, ◌+◌, ◌-◌, length, take, drop}
+use Rattle.std.proofs.Common.{◌∙◌, map, arith, ap, sym, subst, refl, ◌+◌, ◌-◌, length, take, drop}
 use Rattle.std.specs.Prelude.{All, AllPairs, IsTrue}
 use Rattle.std.specs.Ordering.{is_le}
 use Rattle.std.proofs.lemmas.List.{drop-map, length-map, take_rest}
