@@ -8,8 +8,8 @@ use Rattle.layers.specs.Pieces.{Piece, reversed, pieces_round, side_of, IsInMidd
 use Rattle.layers.specs.Sheets.{FoldedFace, FoldedEdge, FaceSide, FoldedSheet, IsCrease, IsJoin, HasPiece, HasFaces, inner_side}
 
 module _ {A : Type 0} (K : OrderedRing A) where
-  -- there are corners, none of them on the outer side of a directed piece of the face, and some
-  -- strictly on the inner side of each
+  -- there are corners, no corner is on the outer side of a directed piece of the face, and each piece
+  -- has some corner strictly on its inner side
   pub record IsConvex (face : FoldedFace A) : Type 0 where
     pub points : (v : Point A) → Contains face.corners v → IsPoint K v
     pub some_corner : (v : Point A) × Contains face.corners v

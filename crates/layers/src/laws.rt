@@ -31,8 +31,8 @@ pub fn convex_faces_hold_points<T>()
         × ((q : Point T) → LiesIn K halves q → side_of K s q ≡ inner_side face.turned → IsInsideFace K face q) }
 {}
 
-/// Orders of which no two say opposite things of two faces put no face above another and below it, and no others do. They rank
-/// all overlaps exactly where no two faces that overlap are left unranked.
+/// Whether one face is above another by a list of orders can be told. No face is both above another and below it exactly where
+/// no two orders say opposite things, and the orders rank all overlaps exactly where they leave none unranked.
 pub fn orders_rank_faces<T>()
     ensures decided { (sheet : FoldedSheet T) (orders : List LayerOrder) (f g : ℕ)
         → Above sheet orders f g ⊎ ¬ Above sheet orders f g }
