@@ -48,8 +48,6 @@ pub fn cover_piece(
     if is_known(known, letter) {
         return Ok(());
     }
-    match covers.insert(piece, joined(known, ends, letter)) {
-        Ok(_) => Ok(()),
-        Err(refused) => Err(AllocError::from(refused)),
-    }
+    covers.insert(piece, joined(known, ends, letter))?;
+    Ok(())
 }

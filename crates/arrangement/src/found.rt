@@ -26,10 +26,8 @@ pub fn add<W: Whole>(found: &mut BTreeSet<Vertex<W>>, point: Point<W>) -> Result
     ensures has { OnOk result (Has W.numbers.ring (map (λ v. v.point) found.new.keys) point) }
     ensures sorted { IsStrictlySortedBy (point_order W.numbers.ring) (map (λ v. v.point) found.new.keys) }
 {
-    match found.insert(vertex_at(point)) {
-        Ok(_) => Ok(()),
-        Err(refused) => Err(AllocError::from(refused)),
-    }
+    found.insert(vertex_at(point))?;
+    Ok(())
 }
 
 /// Adds a point, unless there are too many then.

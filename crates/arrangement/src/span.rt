@@ -129,13 +129,10 @@ fn push_span<W: Whole>(spans: &mut Vec<Span<W>>, s: Segment<W>) -> Result<(), Al
     ensures spans { OnOk result (All (λ s. IsSpan W.numbers s.segment s.left.point s.right.point) spans.old.items
         → All (λ s. IsSpan W.numbers s.segment s.left.point s.right.point) spans.new.items) }
 {
-    match span_of(s) {
-        Some(span) => match spans.push(span) {
-            Ok(()) => Ok(()),
-            Err(refused) => Err(AllocError::from(refused)),
-        },
-        None => Ok(()),
+    if let Some(span) = span_of(s) {
+        spans.push(span)?;
     }
+    Ok(())
 }
 
 /// The segments whose ends differ, from left to right.

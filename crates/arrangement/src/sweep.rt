@@ -71,10 +71,7 @@ fn cross_with<W: Whole, L: Ledger>(
     ensures counted_at_most { (steps.old ≤ steps.new) × (steps.new ≤ steps.old + length near.now) }
 {
     for next in near {
-        match cross_pair(found, s, next.segment, steps) {
-            Ok(()) => {}
-            Err(fault) => return Err(fault),
-        }
+        cross_pair(found, s, next.segment, steps)?;
     }
     Ok(())
 }
@@ -118,10 +115,7 @@ pub fn cross_all<W: Whole, L: Ledger>(
     ensures counted_at_most { (steps.old ≤ steps.new) × (steps.new ≤ steps.old + pairs_sharing_x W.numbers.ring (map (λ s. s.segment) spans.now)) }
 {
     for place in 0..spans.len() {
-        match cross_near(found, &spans[place], &spans[place + 1..], steps) {
-            Ok(()) => {}
-            Err(fault) => return Err(fault),
-        }
+        cross_near(found, &spans[place], &spans[place + 1..], steps)?;
     }
     Ok(())
 }

@@ -11,5 +11,5 @@ not_at p q Less e n = refl
 not_at p q Equal e n = absurd (n (sym (exact_pairs nat_cmp nat_cmp exact_unsigned exact_unsigned p q e)))
 not_at p q Greater e n = refl
 
-pub returns-in-Ok-clause-others : goal.returns-in-Ok-clause-others
-returns-in-Ok-clause-others c = λ q n. c.in-Ok.ensures.updates.2 q (not_at c.args.piece q (piece_order c.args.piece q) refl n)
+pub returns-clause-others : goal.returns-clause-others
+returns-clause-others c = λ q n. c.in_ok-insert.ensures.updates.2 q (not_at c.args.piece q (piece_order c.args.piece q) refl n)

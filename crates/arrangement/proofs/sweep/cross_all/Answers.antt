@@ -52,8 +52,8 @@ cross_near-requires-clause-other_ends g c = λ t there.
     ends_kept g.W.Whole.numbers.ring (IsCrossedIn g.W.Whole.numbers.ring xs) (map (λ v. v.point) c.args.found.now.keys) (map (λ v. v.point) c.loop-place.found.keys) t
     c.loop-place.invariant.grows (c.requires.ends t (in_all g.W.Whole.numbers.ring xs c.loop-place.place x within is r here t there))
 
-pub returns-in-Err-clause-grows : goal.returns-in-Err-clause-grows
-returns-in-Err-clause-grows g c =
+pub returns-in_err-cross_near-clause-grows : goal.returns-in_err-cross_near-clause-grows
+returns-in_err-cross_near-clause-grows g c =
     let xs = map (λ s. s.segment) c.args.spans.now in
     let x = c.index-spans-place.result.segment in
     let within = seen_within (λ s. s.segment) c.args.spans.now c.loop-place.place c.loop-place-test.true in
@@ -63,8 +63,8 @@ returns-in-Err-clause-grows g c =
     let here = ap (map (λ s. s.segment)) (take_rest c.args.spans.now (c.loop-place.place + 1)) ∙ sym (drop-map (λ s. s.segment) (c.loop-place.place + 1) c.args.spans.now) in
     grows_all g.W.Whole.numbers.ring xs c.loop-place.place x within is r here (map (λ v. v.point) c.args.found.now.keys) (map (λ v. v.point) c.loop-place.found.keys) (map (λ v. v.point) c.cross_near.new.found.keys) c.loop-place.invariant.grows c.cross_near.ensures.grows
 
-pub returns-in-Err-clause-counted_at_most : goal.returns-in-Err-clause-counted_at_most
-returns-in-Err-clause-counted_at_most g c =
+pub returns-in_err-cross_near-clause-counted_at_most : goal.returns-in_err-cross_near-clause-counted_at_most
+returns-in_err-cross_near-clause-counted_at_most g c =
     let xs = map (λ s. s.segment) c.args.spans.now in
     let x = c.index-spans-place.result.segment in
     let within = seen_within (λ s. s.segment) c.args.spans.now c.loop-place.place c.loop-place-test.true in
@@ -85,9 +85,9 @@ loop-place-preserved g c =
     let here = ap (map (λ s. s.segment)) (take_rest c.args.spans.now (c.loop-place.place + 1)) ∙ sym (drop-map (λ s. s.segment) (c.loop-place.place + 1) c.args.spans.now) in
     record {
       grows = grows_all g.W.Whole.numbers.ring xs c.loop-place.place x within is r here (map (λ v. v.point) c.args.found.now.keys) (map (λ v. v.point) c.loop-place.found.keys) (map (λ v. v.point) c.cross_near.new.found.keys) c.loop-place.invariant.grows c.cross_near.ensures.grows;
-      has = has_all g.W.Whole.numbers.ring xs c.loop-place.place x within is r here (map (λ v. v.point) c.loop-place.found.keys) (map (λ v. v.point) c.cross_near.new.found.keys) c.cross_near.ensures.grows c.loop-place.invariant.has c.in-Ok.ensures.has;
+      has = has_all g.W.Whole.numbers.ring xs c.loop-place.place x within is r here (map (λ v. v.point) c.loop-place.found.keys) (map (λ v. v.point) c.cross_near.new.found.keys) c.cross_near.ensures.grows c.loop-place.invariant.has c.in_ok-cross_near.ensures.has;
       begun = (let low = c.cross_near.ensures.counted_at_most.0 in let before = c.loop-place.invariant.begun in omega (arith, low, before));
-      counted = pairs_more g.W.Whole.numbers.ring xs c.loop-place.place x within is r here c.args.steps.now c.loop-place.steps c.cross_near.new.steps c.loop-place.invariant.counted c.in-Ok.ensures.counted;
+      counted = pairs_more g.W.Whole.numbers.ring xs c.loop-place.place x within is r here c.args.steps.now c.loop-place.steps c.cross_near.new.steps c.loop-place.invariant.counted c.in_ok-cross_near.ensures.counted;
     }
 
 pub returns-clause-has : goal.returns-clause-has

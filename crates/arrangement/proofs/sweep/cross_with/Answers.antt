@@ -30,8 +30,8 @@ cross_pair-requires-clause-second_ends g c =
     (c.requires.other_ends x
     (read_in xs c.loop-next.next-index x (seen_within (λ t. t.segment) c.args.near.now c.loop-next.next-index c.loop-next-test.true) (seen_at (λ t. t.segment) c.args.near.now c.loop-next.next-index c.next-item.result c.loop-next-test.true c.next-item.is)))
 
-pub returns-in-Err-clause-grows : goal.returns-in-Err-clause-grows
-returns-in-Err-clause-grows g c =
+pub returns-in_err-cross_pair-clause-grows : goal.returns-in_err-cross_pair-clause-grows
+returns-in_err-cross_pair-clause-grows g c =
     let xs = map (λ t. t.segment) c.args.near.now in
     grows_with g.W.Whole.numbers.ring c.args.s xs c.loop-next.next-index c.next-item.result.segment
     (seen_within (λ t. t.segment) c.args.near.now c.loop-next.next-index c.loop-next-test.true) (seen_at (λ t. t.segment) c.args.near.now c.loop-next.next-index c.next-item.result c.loop-next-test.true c.next-item.is)
@@ -47,7 +47,7 @@ loop-next-preserved g c =
       grows = grows_with g.W.Whole.numbers.ring c.args.s xs c.loop-next.next-index x within is
           (map (λ v. v.point) c.args.found.now.keys) (map (λ v. v.point) c.loop-next.found.keys) (map (λ v. v.point) c.cross_pair.new.found.keys) c.loop-next.invariant.grows c.cross_pair.ensures.grows;
       has = has_with g.W.Whole.numbers.ring c.args.s xs c.loop-next.next-index x within is
-          (map (λ v. v.point) c.loop-next.found.keys) (map (λ v. v.point) c.cross_pair.new.found.keys) c.cross_pair.ensures.grows c.loop-next.invariant.has c.in-Ok.ensures.has;
+          (map (λ v. v.point) c.loop-next.found.keys) (map (λ v. v.point) c.cross_pair.new.found.keys) c.cross_pair.ensures.grows c.loop-next.invariant.has c.in_ok-cross_pair.ensures.has;
       counted = omega (arith, c.loop-next.invariant.counted, c.cross_pair.ensures.counted);
     }
 
