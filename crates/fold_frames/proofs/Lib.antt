@@ -7,3 +7,4 @@ pub mod Lengths
 pub mod FirstOf
 pub mod OneFrame
 pub mod ByKey
+pub mod Elements

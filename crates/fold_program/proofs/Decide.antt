@@ -1,18 +1,22 @@
 -- what the words say is one thing, and something
-use Rattle.std.proofs.Common.{◌≡◌, ◌≢◌, ◌⊎◌, true, false, List, [], ◌∷◌, inl, inr, refl, sym, ◌∙◌, ap, subst, codes}
+use Rattle.std.proofs.Common.{ℕ, ◌≡◌, ◌≢◌, ◌⊎◌, true, false, List, [], ◌∷◌, inl, inr, refl, sym, ◌∙◌, ap, subst, codes}
 use Rattle.std.specs.declared.option.Option.{Option}
 use Rattle.std.specs.declared.option.Option.TheVariants.{None, Some}
 use Rattle.std.specs.Option.{option_map_or}
 use Rattle.std.specs.Str.{bytes_eq}
 use Rattle.std.proofs.lemmas.Slice.Eq.{bytes_eq-Decides}
 use Rattle.std.proofs.lemmas.Bool.{false≢true}
+use Rattle.std.proofs.lemmas.Option.{same_Some}
 use Rattle.clap.specs.Words.{Kinds, Row}
-use Rattle.fold_program.specs.Words.{Text, NamesFormat, Says, Mean, AreTaken, AreWordsOf, AreRefused, Reads, TakeNothing, faults, found, said_in}
+use Rattle.fold_keys.specs.Elements.{id_in_text}
+use Rattle.fold_program.specs.Words.{Text, NamesFormat, NamesNumber, Says, Mean, MeanShow, MeanConvert, AreTaken, AreWordsOf, AreRefused, Reads, TakeNothing, faults, found, said_in}
 use Rattle.fold_program.specs.declared.status.Status.{Status}
 use Rattle.fold_program.specs.declared.status.Status.TheVariants.{Words}
 use Rattle.fold_program.specs.declared.status.WordsCause.TheVariants.{Refused, Value}
 use Rattle.fold_program.specs.declared.words.Command.{Command}
-use Rattle.fold_program.specs.declared.words.Command.TheVariants.{Show}
+use Rattle.fold_program.specs.declared.words.Command.TheVariants.{Show, Convert}
+use Rattle.fold_program.specs.declared.words.ConvertOptions.{ConvertOptions}
+use Rattle.fold_program.specs.declared.words.ShowOptions.{ShowOptions}
 use Rattle.fold_program.specs.declared.words.Format.{Format}
 use Rattle.fold_program.specs.declared.words.Format.TheVariants.{Fold, Cp}
 use Rattle.fold_program.proofs.Chain.{Goes, IsStep}
@@ -60,29 +64,85 @@ format_or_not text =
     neither no_fold no_cp Fold e = no_fold e
     neither no_fold no_cp Cp e = no_cp e
 
+number_one : NamesOne NamesNumber
+number_one text x y p q = same_Some x y (sym p ∙ q)
+
+number_or_not : NamesOrNot NamesNumber
+number_or_not text = at (id_in_text text) refl
+  where
+    at : (found : Option ℕ) → id_in_text text ≡ found
+        → ((n : ℕ) × NamesNumber text n) ⊎ ((n : ℕ) → ¬ NamesNumber text n)
+    at None e = inr (λ n h. let both : None ≡ Some n = sym e ∙ h in cc)
+    at (Some n) e = inl (n, e)
+
+fold_or_not : (said : Option Text) → Says NamesFormat Fold said Fold ⊎ ¬ Says NamesFormat Fold said Fold
+fold_or_not None = inl refl
+fold_or_not (Some text) = same_text text (codes "fold")
+
+-- ---- the options of a command
+
+show_or_not : (said : Text → Option Text)
+    → ((o : ShowOptions) × MeanShow said o) ⊎ ((o : ShowOptions) → ¬ MeanShow said o)
+show_or_not said = elim (says_or_not NamesFormat Fold format_or_not (said (codes "from"))) [
+  | inl p ↦ inl (record { from = p.0 }, p.1)
+  | inr none ↦ inr (λ o h. none o.from h)
+]
+
+convert_or_not : (said : Text → Option Text)
+    → ((o : ConvertOptions) × MeanConvert said o) ⊎ ((o : ConvertOptions) → ¬ MeanConvert said o)
+convert_or_not said = elim (fold_or_not (said (codes "from"))) [
+  | inl from ↦ elim (fold_or_not (said (codes "to"))) [
+    | inl to ↦ elim (says_or_not NamesNumber 0 number_or_not (said (codes "frame"))) [
+      | inl p ↦ inl (record { frame = p.0 }, (from, to, p.1))
+      | inr none ↦ inr (λ o h. none o.frame h.2)
+    ]
+    | inr other ↦ inr (λ o h. other h.1)
+  ]
+  | inr other ↦ inr (λ o h. other h.0)
+]
+
 -- ---- the command
+
+pub two_names : (name : Text) → name ≡ codes "show" → name ≡ codes "convert" → ⊥
+two_names name a b = let both : codes "show" ≡ codes "convert" = sym a ∙ b in cc
 
 mean_one : (name : Text) (said : Text → Option Text) (c d : Command) → Mean name said c → Mean name said d → c ≡ d
 mean_one name said (Show o) (Show p) h k = ap (λ f. Show (record { from = f })) (says_one NamesFormat Fold format_one (said (codes "from")) o.from p.from h.1 k.1)
+mean_one name said (Show o) (Convert p) h k = absurd (two_names name h.0 k.0)
+mean_one name said (Convert o) (Show p) h k = absurd (two_names name k.0 h.0)
+mean_one name said (Convert o) (Convert p) h k = ap (λ n. Convert (record { frame = n })) (says_one NamesNumber 0 number_one (said (codes "frame")) o.frame p.frame h.1.2 k.1.2)
 
 mean_or_not : (name : Text) (said : Text → Option Text) → ((c : Command) × Mean name said c) ⊎ ((c : Command) → ¬ Mean name said c)
 mean_or_not name said = elim (same_text name (codes "show")) [
-  | inl show ↦ elim (says_or_not NamesFormat Fold format_or_not (said (codes "from"))) [
-    | inl p ↦ inl (Show (record { from = p.0 }), (show, p.1))
-    | inr none ↦ inr (no_value none)
+  | inl show ↦ elim (show_or_not said) [
+    | inl p ↦ inl (Show p.0, (show, p.1))
+    | inr none ↦ inr (no_show show none)
   ]
-  | inr other ↦ inr (no_name other)
+  | inr not_show ↦ elim (same_text name (codes "convert")) [
+    | inl convert ↦ elim (convert_or_not said) [
+      | inl p ↦ inl (Convert p.0, (convert, p.1))
+      | inr none ↦ inr (no_convert convert none)
+    ]
+    | inr not_convert ↦ inr (no_name not_show not_convert)
+  ]
 ]
   where
-    no_value : ((f : Format) → ¬ Says NamesFormat Fold (said (codes "from")) f) → (c : Command) → ¬ Mean name said c
-    no_value none (Show o) h = none o.from h.1
+    no_show : name ≡ codes "show" → ((o : ShowOptions) → ¬ MeanShow said o) → (c : Command) → ¬ Mean name said c
+    no_show show none (Show o) h = none o h.1
+    no_show show none (Convert o) h = two_names name show h.0
 
-    no_name : ¬ (name ≡ codes "show") → (c : Command) → ¬ Mean name said c
-    no_name other (Show o) h = other h.0
+    no_convert : name ≡ codes "convert" → ((o : ConvertOptions) → ¬ MeanConvert said o) → (c : Command) → ¬ Mean name said c
+    no_convert convert none (Show o) h = two_names name h.0 convert
+    no_convert convert none (Convert o) h = none o h.1
+
+    no_name : ¬ (name ≡ codes "show") → ¬ (name ≡ codes "convert") → (c : Command) → ¬ Mean name said c
+    no_name not_show not_convert (Show o) h = not_show h.0
+    no_name not_show not_convert (Convert o) h = not_convert h.0
 
 -- every command reads the input
 reads : (command : Command) → Reads command
 reads (Show options) = tt
+reads (Convert options) = tt
 
 -- ---- the words
 

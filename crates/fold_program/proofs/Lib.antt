@@ -5,3 +5,4 @@ pub mod Meaning
 pub mod Outcomes
 pub mod Plain
 pub mod Reading
+pub mod Converted

@@ -1,25 +1,37 @@
 -- what `clap` finds in the words, and what that means
-use Rattle.std.proofs.Common.{◌≡◌, ◌≢◌, ◌∙◌, ◌⊎◌, ◌+◌, ◌<◌, ℕ, List, [], ◌∷◌, ◌++◌, Bor, length, get_or, take, map, subst, sym, ap, codes, refl, true, inl, inr}
+use Rattle.std.proofs.Common.{Bool, false, None, Some, ◌^◌, arith, ◌≡◌, ◌≢◌, ◌∙◌, ◌⊎◌, ◌+◌, ◌<◌, ℕ, List, [], ◌∷◌, ◌++◌, Bor, length, get_or, take, map, subst, sym, ap, codes, refl, true, inl, inr}
 use Rattle.std.specs.declared.option.Option.{Option}
 use Rattle.std.specs.List.{fold}
 use Rattle.std.proofs.lemmas.List.{take_more, map-append}
 use Rattle.std.proofs.lemmas.List.Sums.{fold-append}
+use Rattle.std.specs.Fmt.{decimal}
+use Rattle.std.specs.Prelude.{nat_lt, ◌&&◌, if◌then◌else◌}
+use Rattle.std.specs.Str.{bytes_eq}
+use Rattle.std.specs.Str.Parse.{digits_value}
+use Rattle.std.proofs.lemmas.Bool.{ltb-true}
+use Rattle.std.proofs.lemmas.Option.{same_Some}
+use Rattle.json_tree.specs.Number.{IsNumber}
+use Rattle.fold_keys.specs.Elements.{id_in_text}
+use Rattle.fold_keys.proofs.IdTexts.{id_spelled}
+use Rattle.fold_keys.proofs.Spelled.{id_is_number}
 use Rattle.clap.specs.Kinds.{HasKind, IsAmong, Kinds}
 use Rattle.clap.specs.Values.{kind_of}
 use Rattle.clap.specs.Words.{App, HasMatchesOf, fault_of, is_simple, is_simple_and_free, subcommand_rows_of}
 use Rattle.clap.specs.declared.error.Error.{Error}
 use Rattle.clap.specs.declared.error.kind.ErrorKind.{ErrorKind}
 use Rattle.clap.specs.declared.parser.matches.ArgMatches.{ArgMatches}
-use Rattle.fold_program.specs.Words.{Text, Says, Mean, NamesFormat, app, as_listed, faults, found, no_entries, option_rule, with_entry}
+use Rattle.fold_program.specs.Words.{Text, NamesFormat, NamesNumber, Says, Mean, MeanShow, MeanConvert, MeansNone, app, as_listed, faults, found, no_entries, option_rule, with_entry}
 use Rattle.fold_program.specs.Status.{IsOfWords}
 use Rattle.fold_program.specs.declared.words.Entry.{Entry}
 use Rattle.fold_program.specs.declared.words.Command.{Command}
-use Rattle.fold_program.specs.declared.words.Command.TheVariants.{Show}
+use Rattle.fold_program.specs.declared.words.Command.TheVariants.{Show, Convert}
 use Rattle.fold_program.specs.declared.words.Format.{Format}
 use Rattle.fold_program.specs.declared.words.Format.TheVariants.{Fold}
+use Rattle.fold_program.specs.declared.status.WordsCause.{WordsCause}
 use Rattle.fold_program.specs.declared.status.Status.{Status}
 use Rattle.fold_program.specs.declared.status.Status.TheVariants.{Memory, Words}
-use Rattle.fold_program.specs.declared.status.WordsCause.TheVariants.{Refused}
+use Rattle.fold_program.specs.declared.status.WordsCause.TheVariants.{Refused, Value}
+use Rattle.fold_program.proofs.Decide.{two_names}
 
 -- one entry more
 pub entries_more : (xs : List Entry) (i : ℕ) (d : Entry) → i < length xs
@@ -67,7 +79,67 @@ refused a words error status same has (inr p) =
       | inr among ↦ inr (some_among (kind_of error) (fault_of app words) among, p.1)
     ]
 
--- no value of `--from` has this text
-pub not_shown : (name : Text) (said : Text → Option Text) (text : Option Text) → text ≡ said (codes "from") → ((format : Format) → ¬ Says NamesFormat Fold text format)
-    → (command : Command) → ¬ Mean name said command
-not_shown name said text e none (Show options) h = none options.from (subst (λ t. Says NamesFormat Fold t options.from) (sym e) h.1)
+-- ---- what is said means nothing
+
+pub no_show : (name : Text) (said : Text → Option Text) (status : Status) → name ≡ codes "show"
+    → MeansNone (MeanShow said) status → MeansNone (Mean name said) status
+no_show name said status is (inl memory) = inl memory
+no_show name said status is (inr h) = inr (h.0, none)
+  where
+    none : (c : Command) → ¬ Mean name said c
+    none (Show o) m = h.1 o m.1
+    none (Convert o) m = two_names name is m.0
+
+pub no_convert : (name : Text) (said : Text → Option Text) (status : Status) → name ≡ codes "convert"
+    → MeansNone (MeanConvert said) status → MeansNone (Mean name said) status
+no_convert name said status is (inl memory) = inl memory
+no_convert name said status is (inr h) = inr (h.0, none)
+  where
+    none : (c : Command) → ¬ Mean name said c
+    none (Show o) m = two_names name m.0 is
+    none (Convert o) m = h.1 o m.1
+
+pub no_format : (said : Text → Option Text) (text : Option Text) (cause : WordsCause) → text ≡ said (codes "from")
+    → cause ≡ Value → ((format : Format) → ¬ Says NamesFormat Fold text format)
+    → MeansNone (MeanShow said) (Words cause)
+no_format said text cause is value none =
+    inr (ap Words value, λ o h. none o.from (subst (λ t. Says NamesFormat Fold t o.from) (sym is) h))
+
+pub other_from : (said : Text → Option Text) (text : Option Text) (cause : WordsCause) → text ≡ said (codes "from")
+    → cause ≡ Value → ¬ Says NamesFormat Fold text Fold → MeansNone (MeanConvert said) (Words cause)
+other_from said text cause is value other =
+    inr (ap Words value, λ o h. other (subst (λ t. Says NamesFormat Fold t Fold) (sym is) h.0))
+
+pub other_to : (said : Text → Option Text) (text : Option Text) (cause : WordsCause) → text ≡ said (codes "to")
+    → cause ≡ Value → ¬ Says NamesFormat Fold text Fold → MeansNone (MeanConvert said) (Words cause)
+other_to said text cause is value other =
+    inr (ap Words value, λ o h. other (subst (λ t. Says NamesFormat Fold t Fold) (sym is) h.1))
+
+pub no_frame : (said : Text → Option Text) (text : Option Text) (status : Status) → text ≡ said (codes "frame")
+    → MeansNone (Says NamesNumber 0 text) status → MeansNone (MeanConvert said) status
+no_frame said text status is (inl memory) = inl memory
+no_frame said text status is (inr h) =
+    inr (h.0, λ o m. h.1 o.frame (subst (λ t. Says NamesNumber 0 t o.frame) (sym is) m.2))
+
+-- ---- numbers
+
+id_small : (text : List ℕ) (n : ℕ) → id_in_text text ≡ Some n → n < 2 ^ 32
+id_small text n e =
+    at (bytes_eq text (decimal (digits_value 10 text))) (nat_lt (digits_value 10 text) (2 ^ 32)) refl e
+  where
+    at : (a b : Bool) → nat_lt (digits_value 10 text) (2 ^ 32) ≡ b
+        → (if a && b then Some (digits_value 10 text) else None) ≡ Some n → n < 2 ^ 32
+    at true true small h =
+        let same : digits_value 10 text ≡ n = same_Some (digits_value 10 text) n h in
+        subst (λ m. m < 2 ^ 32) same (ltb-true (digits_value 10 text) (2 ^ 32) small)
+    at true false small h = cc
+    at false b small h = cc
+
+pub no_number : (text : List ℕ) → ¬ IsNumber text → None ≡ id_in_text text
+no_number text none = at (id_in_text text) refl
+  where
+    at : (o : Option ℕ) → id_in_text text ≡ o → None ≡ o
+    at None e = refl
+    at (Some n) e =
+        let small = id_small text n e in
+        absurd (none (subst IsNumber (id_spelled text n e) (id_is_number n (omega (arith, small)))))

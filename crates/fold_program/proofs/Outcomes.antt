@@ -1,5 +1,5 @@
 -- words and bytes have one outcome
-use Rattle.std.proofs.Common.{◌≡◌, ◌⊎◌, None, Some, ℕ, List, ◌∷◌, [], ◌++◌, length, inl, inr, refl, sym, ◌∙◌, ap, arith, subst}
+use Rattle.std.proofs.Common.{◌≡◌, ◌≤◌, ◌⊎◌, None, Some, ℕ, List, ◌∷◌, [], ◌++◌, length, inl, inr, refl, sym, ◌∙◌, ap, arith, subst}
 use Rattle.std.specs.declared.option.Option.{Option}
 use Rattle.std.proofs.lemmas.Bool.{cases_lt}
 use Rattle.fold_base.specs.declared.outside.TheConstants.{MOST_BYTES}
@@ -10,11 +10,20 @@ use Rattle.json_tree.specs.PrintedForm as json_form
 use Rattle.json_tree.specs.Spells.{Spells}
 use Rattle.json_tree.specs.declared.tree.Json.{Json}
 use Rattle.json_read.specs.Causes as json
+use Rattle.fold_frames.specs.Answers.{AreInherited, HasNone, IsEffective}
+use Rattle.fold_frames.specs.Counts.{counts_of, misfit_in_effect}
+use Rattle.fold_frames.specs.Effects.{FrameInEffect}
+use Rattle.fold_frames.specs.declared.fault.FrameFault.{FrameFault}
 use Rattle.fold_keys.specs.Shape.{misfit_of_file}
+use Rattle.fold_keys.specs.Trees.{tree_of_file}
+use Rattle.fold_keys.specs.Writable.{IsWritable}
+use Rattle.fold_keys.specs.declared.value.Entry.{Entry}
+use Rattle.fold_keys.specs.declared.value.FoldFile.{FoldFile}
+use Rattle.fold_keys.specs.declared.value.Frame.{Frame}
 use Rattle.fold_keys.specs.declared.fault.ShapeFault.{ShapeFault}
-use Rattle.fold_program.specs.Status.{IsFailure}
+use Rattle.fold_program.specs.Status.{IsFailure, of_frame}
 use Rattle.fold_program.specs.Words.{TakeNothing}
-use Rattle.fold_program.specs.Outcome.{HaveFault, Spell, AreUnread, AreRead, HasMisfit, IsFileTree, Makes, format_of, IsOutcome, AreInput, AreLeft, KeepsToOutcome, HasOutcome, HaveOutcome, HaveAtMostOneOutcome}
+use Rattle.fold_program.specs.Outcome.{HaveFault, Spell, AreUnread, AreRead, HasMisfit, IsFileTree, IsReadFrom, IsSoundTree, HasNoFrame, HasUnevenLists, HasCounts, with_frame, Makes, format_of, IsOutcome, AreInput, AreLeft, KeepsToOutcome, HasOutcome, HaveOutcome, HaveAtMostOneOutcome}
 use Rattle.fold_program.specs.declared.input.Input.{Input}
 use Rattle.fold_program.specs.declared.input.Input.TheVariants as input
 use Rattle.fold_program.specs.declared.status.Status.{Status}
@@ -23,7 +32,7 @@ use Rattle.fold_program.specs.declared.status.ShapeCause.TheVariants.{Key}
 use Rattle.fold_program.specs.declared.status.TextFault.TheVariants as faults
 use Rattle.fold_program.specs.declared.status.Limit.TheVariants.{TooLong}
 use Rattle.fold_program.specs.declared.words.Command.{Command}
-use Rattle.fold_program.specs.declared.words.Command.TheVariants.{Show}
+use Rattle.fold_program.specs.declared.words.Command.TheVariants.{Show, Convert}
 use Rattle.fold_program.specs.declared.words.Format.{Format}
 use Rattle.fold_program.specs.declared.words.Format.TheVariants.{Fold, Cp}
 use Rattle.fold_program.proofs.Chain.{Comes, Goes, IsOne, IsStep, one_answer, one_then, some_then}
@@ -107,23 +116,105 @@ keys_go tree = go (misfit_of_file tree) refl
     go None none = inr (tree, (refl, none))
     go (Some fault) some = inl (Shape (Key fault), (fault, some, refl))
 
--- ---- the commands
+-- ---- files and their frames
 
-one_made : (command : Command) (spelled : Input) → IsOne (Makes command spelled)
-one_made (Show options) (input.Fold tree) = one_then _ _ _ (keys_step tree) (λ of_file h. one_answer _)
-one_made (Show options) (input.Cp lines) = one_answer _
+-- a tree without misfit is that of one file, whose frames each have one effective frame or one
+-- cause why there is none
+pub record HaveOneFile : Type 0 where
+  pub some : (tree : Json) → IsSoundTree tree → misfit_of_file tree ≡ None
+      → (file : FoldFile) × (tree_of_file file ≡ tree) × IsWritable file
+  pub one : (f g : FoldFile) → IsWritable f → IsWritable g → tree_of_file f ≡ tree_of_file g
+      → f ≡ g
+  pub sound : (bytes : List ℕ) (tree : Json) → length bytes ≤ MOST_BYTES → Spells bytes tree
+      → IsSoundTree tree
+  pub some_frame : (frames : List Frame) (k : ℕ)
+      → ((entries : List Entry) × AreInherited frames k entries)
+      ⊎ ((fault : FrameFault) × HasNone frames k fault)
+  pub one_frame : (frames : List Frame) (k : ℕ) (es fs : List Entry) → AreInherited frames k es
+      → AreInherited frames k fs → es ≡ fs
+  pub one_cause : (frames : List Frame) (k : ℕ) (e f : FrameFault) → HasNone frames k e
+      → HasNone frames k f → e ≡ f
+  pub apart : (frames : List Frame) (k : ℕ) (es : List Entry) (fault : FrameFault)
+      → AreInherited frames k es → HasNone frames k fault → ⊥
 
-some_made : (command : Command) (spelled : Input) → Comes (Makes command spelled)
-some_made (Show options) (input.Fold tree) = some_then _ _ _ (keys_go tree) (λ of_file h. (Done, json_form.printed_form of_file ++ 10 ∷ [], (refl, refl)))
-some_made (Show options) (input.Cp lines) = (Done, cp_form.printed_form lines, (refl, refl))
+module _ (have : HaveOneFile) where
+  file_step : (tree : Json) → IsStep (HasMisfit tree) (IsReadFrom tree)
+  file_step tree = record {
+    one_stop = (keys_step tree).one_stop;
+    one_value = λ f g p q. have.one f g p.1 q.1 (p.0.0 ∙ sym q.0.0);
+    apart = λ s f p q. fits_or_not (misfit_of_file tree) p.0 p.1 q.0.1;
+  }
+
+  file_goes : (tree : Json) → IsSoundTree tree → Goes (HasMisfit tree) (IsReadFrom tree)
+  file_goes tree sound = go (misfit_of_file tree) refl
+    where
+      go : (found : Option ShapeFault) → misfit_of_file tree ≡ found
+          → Goes (HasMisfit tree) (IsReadFrom tree)
+      go None none =
+          let read = have.some tree sound none in inr (read.0, ((read.1, none), read.2))
+      go (Some fault) some = inl (Shape (Key fault), (fault, some, refl))
+
+  frame_step : (file : FoldFile) (k : ℕ) → IsStep (HasNoFrame file k) (IsEffective file.frames k)
+  frame_step file k = record {
+    one_stop = λ s t p q.
+        p.2 ∙ ap of_frame (have.one_cause file.frames k p.0 q.0 p.1 q.1) ∙ sym q.2;
+    one_value = λ f g p q.
+        let number : f.frame ≡ g.frame = p.0 ∙ sym q.0 in
+        let entries = have.one_frame file.frames k f.entries g.entries p.1 q.1 in
+        (λ i. record { frame = number i; entries = entries i });
+    apart = λ s f p q. have.apart file.frames k f.entries p.0 q.1 p.1;
+  }
+
+  frame_goes : (file : FoldFile) (k : ℕ) → Goes (HasNoFrame file k) (IsEffective file.frames k)
+  frame_goes file k = elim (have.some_frame file.frames k) [
+    | inl p ↦ inr (record { frame = k; entries = p.0 }, (refl, p.1))
+    | inr p ↦ inl (of_frame p.0, (p.0, p.1, refl))
+  ]
+
+  counts_step : (frame : FrameInEffect) → IsStep (HasUnevenLists frame) (HasCounts frame)
+  counts_step frame = record {
+    one_stop = λ s s' p q. let same : Some p.0 ≡ Some q.0 = sym p.1 ∙ q.1 in let fault : p.0 ≡ q.0 = cc in p.2 ∙ ap (λ f. Shape (Key f)) fault ∙ sym q.2;
+    one_value = λ x x' p q. p.0 ∙ sym q.0;
+    apart = λ s x p q. fits_or_not (misfit_in_effect frame) p.0 p.1 q.1;
+  }
+
+  counts_go : (frame : FrameInEffect) → Goes (HasUnevenLists frame) (HasCounts frame)
+  counts_go frame = go (misfit_in_effect frame) refl
+    where
+      go : (found : Option ShapeFault) → misfit_in_effect frame ≡ found
+          → Goes (HasUnevenLists frame) (HasCounts frame)
+      go None none = inr (counts_of frame.entries, (refl, none))
+      go (Some fault) some = inl (Shape (Key fault), (fault, some, refl))
+
+  -- ---- the commands
+
+  one_made : (command : Command) (spelled : Input) → IsOne (Makes command spelled)
+  one_made (Show options) (input.Fold tree) = one_then _ _ _ (keys_step tree) (λ of_file h. one_answer _)
+  one_made (Show options) (input.Cp lines) = one_answer _
+  one_made (Convert options) (input.Fold tree) =
+      one_then _ _ _ (file_step tree) (λ file h.
+      one_then _ _ _ (frame_step file options.frame) (λ frame h.
+      one_then _ _ _ (counts_step frame) (λ counts h. one_answer _)))
+  one_made (Convert options) (input.Cp lines) = λ s s' t t' a b. absurd a
+
+  some_made : (command : Command) (bytes : List ℕ) (spelled : Input)
+      → AreRead (format_of command) bytes spelled → Comes (Makes command spelled)
+  some_made (Show options) bytes (input.Fold tree) read = some_then _ _ _ (keys_go tree) (λ of_file h. (Done, json_form.printed_form of_file ++ 10 ∷ [], (refl, refl)))
+  some_made (Show options) bytes (input.Cp lines) read = (Done, cp_form.printed_form lines, (refl, refl))
+  some_made (Convert options) bytes (input.Fold tree) read =
+      some_then _ _ _ (file_goes tree (have.sound bytes tree read.0 read.1)) (λ file h.
+      some_then _ _ _ (frame_goes file options.frame) (λ frame h.
+      some_then _ _ _ (counts_go frame) (λ counts h.
+      (Done, json_form.printed_form (tree_of_file (with_frame file frame)) ++ 10 ∷ [], (refl, refl)))))
+  some_made (Convert options) bytes (input.Cp lines) read = absurd read.1
 
 -- ---- words and bytes
 
-pub one_outcome : HaveOneReading → (words : List (List ℕ)) (bytes : List ℕ) → HaveAtMostOneOutcome words bytes
-one_outcome one words bytes = one_then _ _ _ (words_step words) (λ command h. one_then _ _ _ (reading_step one (format_of command) bytes) (λ spelled k. one_made command spelled))
+pub one_outcome : HaveOneReading → HaveOneFile → (words : List (List ℕ)) (bytes : List ℕ) → HaveAtMostOneOutcome words bytes
+one_outcome one have words bytes = one_then _ _ _ (words_step words) (λ command h. one_then _ _ _ (reading_step one (format_of command) bytes) (λ spelled k. one_made have command spelled))
 
-pub some_outcome : HaveOneReading → (words : List (List ℕ)) (bytes : List ℕ) → HaveOutcome words bytes
-some_outcome one words bytes = some_then _ _ _ (words_go words) (λ command h. some_then _ _ _ (reading_goes one (format_of command) bytes) (λ spelled k. some_made command spelled))
+pub some_outcome : HaveOneReading → HaveOneFile → (words : List (List ℕ)) (bytes : List ℕ) → HaveOutcome words bytes
+some_outcome one have words bytes = some_then _ _ _ (words_go words) (λ command h. some_then _ _ _ (reading_goes one (format_of command) bytes) (λ spelled k. some_made have command bytes spelled k))
 
 -- where the words take nothing, the bytes don't matter
 of_any : (words : List (List ℕ)) → TakeNothing words → (bytes other : List ℕ) (s : Status) (t : List ℕ) → IsOutcome words bytes s t → IsOutcome words other s t

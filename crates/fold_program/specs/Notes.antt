@@ -1,5 +1,6 @@
 -- what is said of a status
 use Rattle.std.specs.Prelude.{◌≡◌, ◌⊎◌, ℕ, List, [], ◌∷◌, ◌++◌, codes}
+use Rattle.std.specs.Fmt.{decimal}
 use Rattle.std.specs.declared.option.Option.{Option}
 use Rattle.fold_base.specs.Outside.{Gains, Rose}
 use Rattle.fold_program.specs.Status.{IsAnswer}
@@ -12,7 +13,7 @@ use Rattle.fold_program.specs.declared.status.Status.TheVariants.{Read, Write, L
 use Rattle.fold_program.specs.declared.status.TextFault.{TextFault}
 use Rattle.fold_program.specs.declared.status.TextFault.TheVariants.{Json, Cp}
 use Rattle.fold_program.specs.declared.status.ShapeCause.{ShapeCause}
-use Rattle.fold_program.specs.declared.status.ShapeCause.TheVariants.{Key}
+use Rattle.fold_program.specs.declared.status.ShapeCause.TheVariants.{Key, NoFrame, ParentRange, ParentLoop}
 use Rattle.fold_program.specs.declared.status.WordsCause.{WordsCause}
 use Rattle.fold_program.specs.declared.status.WordsCause.TheVariants.{Refused, Value}
 use Rattle.fold_program.specs.declared.status.Limit.{Limit as AnyLimit}
@@ -26,6 +27,9 @@ text_message (Cp fault) = cp.fault_text fault
 -- what is said of what isn't as the command asks for
 abbrev pub shape_message : ShapeCause → List ℕ
 shape_message (Key fault) = keys.fault_text fault
+shape_message (NoFrame frame) = codes "no frame " ++ decimal frame
+shape_message (ParentRange frame) = codes "parent range " ++ decimal frame
+shape_message (ParentLoop frame) = codes "parent loop " ++ decimal frame
 
 -- what is said of words that are refused
 abbrev pub words_message : WordsCause → List ℕ

@@ -1,7 +1,9 @@
 -- the outcome of words and bytes, and what it has to do with the outside
-use Rattle.std.specs.Prelude.{◌≡◌, ◌⊎◌, ℕ, ◌<◌, ◌≤◌, List, [], ◌∷◌, ◌++◌, length}
-use Rattle.std.specs.Prelude.{Some, None, Result, Ok, Err}
-use Rattle.std.specs.List.{All}
+use Rattle.std.specs.Prelude.{◌≡◌, ◌⊎◌, ℕ, ◌<◌, ◌≤◌, List, [], ◌∷◌, ◌++◌, length, filter}
+use Rattle.std.specs.Prelude.{Bool, ◌&&◌, not, codes, Some, None, Result, Ok, Err}
+use Rattle.std.specs.List.{All, starts_with}
+use Rattle.std.specs.Str.{bytes_eq}
+use Rattle.std.proofs.Math.Dec.{eqb}
 use Rattle.std.specs.declared.option.Option.{Option}
 use Rattle.fold_base.specs.Outside.{Gains, GainsPart}
 use Rattle.fold_base.specs.declared.outside.TheConstants.{MOST_BYTES}
@@ -15,14 +17,21 @@ use Rattle.json_tree.specs.Tree.{IsProper}
 use Rattle.json_tree.specs.declared.tree.Json.{Json}
 use Rattle.json_read.specs.Causes as json
 use Rattle.json_read.specs.declared.fault.JsonFault.{JsonFault}
+use Rattle.fold_frames.specs.Answers.{HasNone, IsEffective}
+use Rattle.fold_frames.specs.Counts.{counts_of, misfit_in_effect}
+use Rattle.fold_frames.specs.Effects.{FrameInEffect}
+use Rattle.fold_frames.specs.Inherits.{entries_at}
+use Rattle.fold_frames.specs.declared.counts.Counts.{Counts}
+use Rattle.fold_frames.specs.declared.fault.FrameFault.{FrameFault}
 use Rattle.fold_keys.specs.Shape.{misfit_of_file}
 use Rattle.fold_keys.specs.Short.{HasShortLists, HasShortSpec}
 use Rattle.fold_keys.specs.Trees.{tree_of_file}
-use Rattle.fold_keys.specs.Writable.{IsWritable}
+use Rattle.fold_keys.specs.Writable.{IsWritable, file_of}
 use Rattle.fold_keys.specs.declared.fault.ShapeFault.{ShapeFault}
+use Rattle.fold_keys.specs.declared.value.Entry.{Entry}
 use Rattle.fold_keys.specs.declared.value.FoldFile.{FoldFile}
-use Rattle.fold_program.specs.Status.{IsAnswer, IsFailure}
-use Rattle.fold_program.specs.Steps.{Outcome, Then, Answers}
+use Rattle.fold_program.specs.Status.{IsAnswer, IsFailure, of_frame}
+use Rattle.fold_program.specs.Steps.{Outcome, Then, Answers, Never}
 use Rattle.fold_program.specs.Words.{AreWordsOf, AreRefused, TakeNothing}
 use Rattle.fold_program.specs.declared.input.Input.{Input}
 use Rattle.fold_program.specs.declared.input.Input.TheVariants as input
@@ -33,7 +42,8 @@ use Rattle.fold_program.specs.declared.status.ShapeCause.TheVariants.{Key}
 use Rattle.fold_program.specs.declared.status.TextFault.TheVariants as faults
 use Rattle.fold_program.specs.declared.status.Limit.TheVariants.{TooLong}
 use Rattle.fold_program.specs.declared.words.Command.{Command}
-use Rattle.fold_program.specs.declared.words.Command.TheVariants.{Show}
+use Rattle.fold_program.specs.declared.words.Command.TheVariants.{Show, Convert}
+use Rattle.fold_program.specs.declared.words.ConvertOptions.{ConvertOptions}
 use Rattle.fold_program.specs.declared.words.Format.{Format}
 use Rattle.fold_program.specs.declared.words.Format.TheVariants.{Fold, Cp}
 
@@ -117,13 +127,63 @@ abbrev pub Shows : Input → Outcome
 Shows (input.Fold tree) = ShowsTree tree
 Shows (input.Cp lines) = Answers (cp_form.printed_form lines)
 
+-- ---- convert
+
+-- the frame has no effective frame, and the status names why
+abbrev pub HasNoFrame : FoldFile → ℕ → Status → Type 0
+HasNoFrame file frame status =
+    (fault : FrameFault) × HasNone file.frames frame fault × (status ≡ of_frame fault)
+
+-- the lists of the effective frame don't agree, and the status names where
+abbrev pub HasUnevenLists : FrameInEffect → Status → Type 0
+HasUnevenLists frame status =
+    (fault : ShapeFault) × (misfit_in_effect frame ≡ Some fault) × (status ≡ Shape (Key fault))
+
+-- they agree, and so many there are
+abbrev pub HasCounts : FrameInEffect → Counts → Type 0
+HasCounts frame counts = (counts ≡ counts_of frame.entries) × (misfit_in_effect frame ≡ None)
+
+-- what a file says of itself, without its frames
+abbrev pub is_of_file : List ℕ → Bool
+is_of_file key = starts_with eqb key (codes "file_") && not (bytes_eq key (codes "file_frames"))
+
+abbrev pub of_file : FoldFile → List Entry
+of_file file = filter (λ e. is_of_file e.key) (entries_at file.frames 0)
+
+-- the file that says the same of itself and has this frame alone
+abbrev pub with_frame : FoldFile → FrameInEffect → FoldFile
+with_frame file frame = file_of (of_file file ++ frame.entries)
+
+-- an effective frame is refused where its lists don't agree, or else written in place of all frames
+abbrev pub WritesFrame : FoldFile → FrameInEffect → Outcome
+WritesFrame file frame =
+    Then (HasUnevenLists frame) (HasCounts frame)
+    (λ counts. Answers (json_form.printed_form (tree_of_file (with_frame file frame)) ++ 10 ∷ []))
+
+-- the frame with this number, if there is one
+abbrev pub ConvertsFile : ℕ → FoldFile → Outcome
+ConvertsFile number file =
+    Then (HasNoFrame file number) (IsEffective file.frames number) (WritesFrame file)
+
+-- a tree is refused at its first misfit, or else its file is converted
+abbrev pub ConvertsTree : ℕ → Json → Outcome
+ConvertsTree number tree = Then (HasMisfit tree) (IsReadFrom tree) (ConvertsFile number)
+
+abbrev pub Converts : ConvertOptions → Input → Outcome
+Converts options (input.Fold tree) = ConvertsTree options.frame tree
+Converts options (input.Cp lines) = Never
+
+-- ---- all commands
+
 -- the format that a command reads
 abbrev pub format_of : Command → Format
 format_of (Show options) = options.from
+format_of (Convert options) = Fold
 
 -- what a command makes of what it read
 abbrev pub Makes : Command → Input → Outcome
 Makes (Show options) = Shows
+Makes (Convert options) = Converts options
 
 -- what a command makes of the bytes: they aren't read, or it makes something of what they spell
 abbrev pub Does : Command → List ℕ → Outcome

@@ -9,13 +9,15 @@ use Rattle.cp_lines.specs.declared.fault.CpReadFault.{CpReadFault}
 use Rattle.cp_lines.specs.declared.fault.CpReadFault.TheVariants as cp
 use Rattle.json_read.specs.declared.fault.JsonReadFault.{JsonReadFault}
 use Rattle.json_read.specs.declared.fault.JsonReadFault.TheVariants as json
+use Rattle.fold_frames.specs.declared.fault.FrameFault.{FrameFault}
+use Rattle.fold_frames.specs.declared.fault.FrameFault.TheVariants as frames
 use Rattle.fold_keys.specs.declared.fault.FoldFault.{FoldFault}
 use Rattle.fold_keys.specs.declared.fault.FoldFault.TheVariants as keys
 use Rattle.fold_program.specs.declared.status.Status.{Status}
 use Rattle.fold_program.specs.declared.status.Status.TheVariants.{Done, Text, Shape, Words}
 use Rattle.fold_program.specs.declared.status.Status.TheVariants.{Read, Write, Limit, Memory}
 use Rattle.fold_program.specs.declared.status.TextFault.TheVariants.{Json, Cp}
-use Rattle.fold_program.specs.declared.status.ShapeCause.TheVariants.{Key}
+use Rattle.fold_program.specs.declared.status.ShapeCause.TheVariants.{Key, NoFrame, ParentRange, ParentLoop}
 use Rattle.fold_program.specs.declared.status.WordsCause.TheVariants.{Refused}
 use Rattle.fold_program.specs.declared.status.Limit.TheVariants.{TooLong}
 
@@ -67,6 +69,13 @@ of_cp (cp.Memory error) = Memory
 abbrev pub of_keys : FoldFault → Status
 of_keys (keys.Shape fault) = Shape (Key fault)
 of_keys (keys.Memory error) = Memory
+
+-- the status where a frame has no effective frame
+abbrev pub of_frame : FrameFault → Status
+of_frame (frames.NoFrame frame) = Shape (NoFrame frame)
+of_frame (frames.ParentRange frame) = Shape (ParentRange frame)
+of_frame (frames.ParentLoop frame) = Shape (ParentLoop frame)
+of_frame (frames.Memory error) = Memory
 
 -- the status where `clap` doesn't take the words: want of memory is no fault of theirs
 abbrev pub IsOfWords : Error → Status → Type 0

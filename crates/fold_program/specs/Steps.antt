@@ -23,6 +23,10 @@ Then {X} stops gives next status text =
 abbrev pub Answers : List ℕ → Outcome
 Answers due status text = (status ≡ Done) × (text ≡ due)
 
+-- what never comes has no outcome
+abbrev pub Never : Outcome
+Never status text = ⊥
+
 -- a status with which a command may stop once it has read: what was read decides it, and nothing
 -- else
 abbrev pub IsStop : Status → Type 0

@@ -8,13 +8,16 @@ use Rattle.clap.specs.Words.{App, Kinds, Row, Rule, Shape, fault_of, first_of, n
 use Rattle.clap.specs.Words.{subcommand_of, with_subcommand}
 use Rattle.clap.specs.Simple.{new_shape}
 use Rattle.clap.specs.declared.builder.action.ArgAction.TheVariants.{Set}
+use Rattle.fold_keys.specs.Elements.{id_in_text}
 use Rattle.fold_program.specs.declared.words.Entry.{Entry}
 use Rattle.fold_program.specs.declared.words.Command.{Command}
-use Rattle.fold_program.specs.declared.words.Command.TheVariants.{Show}
+use Rattle.fold_program.specs.declared.words.Command.TheVariants.{Show, Convert}
+use Rattle.fold_program.specs.declared.words.ConvertOptions.{ConvertOptions}
+use Rattle.fold_program.specs.declared.words.ShowOptions.{ShowOptions}
 use Rattle.fold_program.specs.declared.words.Format.{Format}
 use Rattle.fold_program.specs.declared.words.Format.TheVariants.{Fold, Cp}
 use Rattle.fold_program.specs.declared.status.Status.{Status}
-use Rattle.fold_program.specs.declared.status.Status.TheVariants.{Words}
+use Rattle.fold_program.specs.declared.status.Status.TheVariants.{Words, Memory}
 use Rattle.fold_program.specs.declared.status.WordsCause.TheVariants.{Refused, Value}
 
 abbrev pub Text : Type 0
@@ -32,7 +35,10 @@ pub record Listed : Type 0 where
   pub options : List Text
 
 abbrev pub table : List Listed
-table = record { name = codes "show"; options = codes "from" ∷ [] } ∷ []
+table =
+    record { name = codes "show"; options = codes "from" ∷ [] } ∷
+    record { name = codes "convert"; options = codes "from" ∷ codes "to" ∷ codes "frame" ∷ [] } ∷
+    []
 
 -- the text that names a format
 abbrev pub name_of : Format → Text
@@ -42,16 +48,31 @@ name_of Cp = codes "cp"
 abbrev pub NamesFormat : Text → Format → Type 0
 NamesFormat text format = text ≡ name_of format
 
+-- the text spells this number, in digits and in one way
+abbrev pub NamesNumber : Text → ℕ → Type 0
+NamesNumber text number = id_in_text text ≡ Some number
+
 -- what is said of an option: its value is the one that the text names, and its default where
 -- nothing is said
 abbrev pub Says : {X : Type 0} → (Text → X → Type 0) → X → Option Text → X → Type 0
 Says names default None value = value ≡ default
 Says names default (Some text) value = names text value
 
+-- what is said of each option means these
+abbrev pub MeanShow : (Text → Option Text) → ShowOptions → Type 0
+MeanShow said options = Says NamesFormat Fold (said (codes "from")) options.from
+
+-- a file of one format is made of another of that format, and of FOLD alone
+abbrev pub MeanConvert : (Text → Option Text) → ConvertOptions → Type 0
+MeanConvert said options =
+    Says NamesFormat Fold (said (codes "from")) Fold
+    × Says NamesFormat Fold (said (codes "to")) Fold
+    × Says NamesNumber 0 (said (codes "frame")) options.frame
+
 -- a command's name, and what is said of each option, mean this command
 abbrev pub Mean : Text → (Text → Option Text) → Command → Type 0
-Mean name said (Show options) =
-    (name ≡ codes "show") × Says NamesFormat Fold (said (codes "from")) options.from
+Mean name said (Show options) = (name ≡ codes "show") × MeanShow said options
+Mean name said (Convert options) = (name ≡ codes "convert") × MeanConvert said options
 
 -- ---- the words as `clap` takes them
 
@@ -111,9 +132,15 @@ AreRefused words status =
     ⊎ ((name : Text) × (rows : List Row) × AreTaken words name rows
     × ((command : Command) → ¬ Mean name (said_in rows) command) × (status ≡ Words Value))
 
+-- the status where what is said means nothing: a value is out of the table, unless memory was
+-- wanting
+abbrev pub MeansNone : {X : Type 0} → (X → Type 0) → Status → Type 0
+MeansNone {X} mean status = (status ≡ Memory) ⊎ ((status ≡ Words Value) × ((x : X) → ¬ mean x))
+
 -- the command reads the input
 abbrev pub Reads : Command → Type 0
 Reads (Show options) = Unit {0}
+Reads (Convert options) = Unit {0}
 
 -- nothing is taken from the source: the words are refused, or their command reads no input
 abbrev pub TakeNothing : List Text → Type 0

@@ -2,6 +2,7 @@
 ghost use Rattle.fold_program.specs.Steps.{Follows, Steps};
 ghost use Rattle.fold_program.specs.Outcome.{HasFormat, HasMisfit, IsReadFrom, IsSound, IsSoundTree, Makes, Shows, ShowsTree, format_of};
 
+use crate::convert::convert;
 use crate::input::Input;
 use crate::status::Status;
 use crate::words::Command;
@@ -19,6 +20,7 @@ pub fn act(alloc: Global, command: &Command, input: Input) -> Result<Text, Statu
 {
     match command {
         Command::Show(_) => show(alloc, input),
+        Command::Convert(options) => convert(alloc, options, input),
     }
 }
 
@@ -46,7 +48,7 @@ fn show_tree(alloc: Global, tree: Json) -> Result<Text, Status>
 }
 
 /// FOLD's keys: the file that the tree is, or its first misfit.
-fn read_file(alloc: Global, tree: Json) -> Result<FoldFile, Status>
+pub fn read_file(alloc: Global, tree: Json) -> Result<FoldFile, Status>
     requires { IsSoundTree tree }
     ensures { Steps (HasMisfit tree) (IsReadFrom tree) result }
 {

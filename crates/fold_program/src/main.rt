@@ -6,6 +6,7 @@
 
 mod act;
 mod arguments;
+mod convert;
 mod input;
 mod notes;
 mod run;

@@ -4,6 +4,7 @@ ghost use Rattle.std.specs.Prelude.{◌≡◌};
 use clap::error::ErrorKind;
 use cp_lines::{CpFault, CpReadFault};
 use fold_base::ReadFault;
+use fold_frames::FrameFault;
 use fold_keys::{FoldFault, ShapeFault};
 use json_read::{JsonFault, JsonReadFault};
 use std::alloc::AllocError;
@@ -35,8 +36,14 @@ pub enum TextFault {
 /// Why what was read isn't as the command asks for.
 #[derive(Debug, PartialEq, Eq, Drop)]
 pub enum ShapeCause {
-    /// What stands at a key of FOLD isn't of the key's kind.
+    /// What stands at a key of FOLD isn't of the key's kind, or the lists of a frame don't agree.
     Key(ShapeFault),
+    /// There is no frame of this number.
+    NoFrame { frame: u32 },
+    /// This frame inherits from one that isn't there.
+    ParentRange { frame: u32 },
+    /// Of the frames that are met when parents are followed, this is the first that is met again.
+    ParentLoop { frame: u32 },
 }
 
 #[derive(Clone, Copy, Debug, PartialEq, Eq)]
@@ -136,6 +143,21 @@ impl From<FoldFault> for Status {
     }
 }
 
+impl From<FrameFault> for Status {
+    ghost use Rattle.fold_program.specs.Status.{of_frame};
+
+    ghost from_gives = { λ fault status. status ≡ of_frame fault };
+
+    fn from(fault: FrameFault) -> Status {
+        match fault {
+            FrameFault::NoFrame { frame } => Status::Shape(ShapeCause::NoFrame { frame }),
+            FrameFault::ParentRange { frame } => Status::Shape(ShapeCause::ParentRange { frame }),
+            FrameFault::ParentLoop { frame } => Status::Shape(ShapeCause::ParentLoop { frame }),
+            FrameFault::Memory(_) => Status::Memory,
+        }
+    }
+}
+
 impl From<clap::Error> for Status {
     ghost use Rattle.fold_program.specs.Status.{IsOfWords};
 
@@ -205,6 +227,9 @@ impl fmt::Display for ShapeCause {
     fn fmt<W: fmt::Write>(&self, f: &mut fmt::Formatter<W>) -> fmt::Result {
         match self {
             ShapeCause::Key(fault) => write!(f, "{fault}"),
+            ShapeCause::NoFrame { frame } => write!(f, "no frame {frame}"),
+            ShapeCause::ParentRange { frame } => write!(f, "parent range {frame}"),
+            ShapeCause::ParentLoop { frame } => write!(f, "parent loop {frame}"),
         }
     }
 }

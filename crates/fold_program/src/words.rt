@@ -1,11 +1,13 @@
 // The words of the command line, read by the crate `clap`.
-ghost use Rattle.std.specs.Prelude.{◌≡◌, ◌≢◌, ◌⊎◌, [], IfOk, IfErr, false, option_map};
+ghost use Rattle.std.specs.Prelude.{◌≡◌, ◌≢◌, ◌⊎◌, [], IfOk, IfErr, OnOk, false, option_map};
 ghost use Rattle.clap.specs.Words.{app_of, found_of, rows_of, shape_of, subcommand_rows_of};
 ghost use Rattle.clap.specs.declared.builder.command.Command.TheViews.{out-Command};
-ghost use Rattle.fold_program.specs.Words.{texts, app, faults, found, as_listed, subcommand_shape, said_in, Mean, NamesFormat, Says, AreWordsOf, AreRefused};
+ghost use Rattle.fold_keys.specs.Elements.{id_in_text};
+ghost use Rattle.fold_program.specs.Words.{texts, app, faults, found, as_listed, subcommand_shape, said_in, Mean, MeanShow, MeanConvert, MeansNone, NamesFormat, NamesNumber, Says, AreWordsOf, AreRefused};
 
 use crate::status::{Status, WordsCause};
 use clap::{Arg, ArgAction, ArgMatches};
+use json_tree::{NumberReadFault, NumberText};
 use std::alloc::{AllocError, Global};
 
 /// What the words ask for.
@@ -13,11 +15,19 @@ use std::alloc::{AllocError, Global};
 pub enum Command {
     /// Prints the whole input in the printed form of its format.
     Show(ShowOptions),
+    /// Takes a frame out of a file, with all that it inherits.
+    Convert(ConvertOptions),
 }
 
 #[derive(Clone, Copy, Debug, PartialEq, Eq)]
 pub struct ShowOptions {
     pub from: Format,
+}
+
+#[derive(Clone, Copy, Debug, PartialEq, Eq)]
+pub struct ConvertOptions {
+    /// The number of the frame.
+    pub frame: u32,
 }
 
 #[derive(Clone, Copy, Debug, PartialEq, Eq)]
@@ -37,6 +47,7 @@ impl Command {
     {
         match self {
             Command::Show(options) => options.from,
+            Command::Convert(_) => Format::Fold,
         }
     }
 }
@@ -47,10 +58,16 @@ pub struct Entry {
     options: &'static [&'static str],
 }
 
-static TABLE: [Entry; 1] = [Entry {
-    name: "show",
-    options: &["from"],
-}];
+static TABLE: [Entry; 2] = [
+    Entry {
+        name: "show",
+        options: &["from"],
+    },
+    Entry {
+        name: "convert",
+        options: &["from", "to", "frame"],
+    },
+];
 
 /// The command that the words mean.
 pub fn read_words(alloc: Global, words: &[String]) -> Result<Command, Status>
@@ -60,7 +77,7 @@ pub fn read_words(alloc: Global, words: &[String]) -> Result<Command, Status>
 {
     let matches = matches_of(alloc, words)?;
     match matches.subcommand() {
-        Some((name, options)) => Ok(command_of(name, options)?),
+        Some((name, options)) => command_of(alloc, name, options),
         None => Err(Status::Words(WordsCause::Refused)),
     }
 }
@@ -100,18 +117,74 @@ fn subcommand<'a>(alloc: Global, entry: &Entry) -> Result<clap::Command<'a>, All
 }
 
 /// The command with the options that were given.
-fn command_of(name: &str, options: &ArgMatches<'_>) -> Result<Command, WordsCause>
+fn command_of(alloc: Global, name: &str, options: &ArgMatches<'_>) -> Result<Command, Status>
     ensures ok { IfOk result (Mean name.now (said_in (rows_of (found_of options.now)))) }
-    ensures err { IfErr result (λ cause. (cause ≡ WordsCause.Value)
-        × ((command : Command) →
-        ¬ Mean name.now (said_in (rows_of (found_of options.now))) command)) }
+    ensures err { IfErr result
+        (MeansNone (Mean name.now (said_in (rows_of (found_of options.now))))) }
 {
     if name == "show" {
-        let from = format_of(options.get_str("from"))?;
-        Ok(Command::Show(ShowOptions { from }))
+        Ok(Command::Show(show_options(options)?))
+    } else if name == "convert" {
+        Ok(Command::Convert(convert_options(alloc, options)?))
     } else {
         // `clap` finds no command but those of the table.
-        Err(WordsCause::Value)
+        Err(Status::Words(WordsCause::Value))
+    }
+}
+
+fn show_options(options: &ArgMatches<'_>) -> Result<ShowOptions, Status>
+    ensures ok { IfOk result (MeanShow (said_in (rows_of (found_of options.now)))) }
+    ensures err { IfErr result
+        (MeansNone (MeanShow (said_in (rows_of (found_of options.now))))) }
+{
+    let from = format_of(options.get_str("from"))?;
+    Ok(ShowOptions { from })
+}
+
+fn convert_options(alloc: Global, options: &ArgMatches<'_>) -> Result<ConvertOptions, Status>
+    ensures ok { IfOk result (MeanConvert (said_in (rows_of (found_of options.now)))) }
+    ensures err { IfErr result
+        (MeansNone (MeanConvert (said_in (rows_of (found_of options.now))))) }
+{
+    fold_alone(options.get_str("from"))?;
+    fold_alone(options.get_str("to"))?;
+    let frame = frame_of(alloc, options.get_str("frame"))?;
+    Ok(ConvertOptions { frame })
+}
+
+/// Nothing but FOLD is said.
+fn fold_alone(said: Option<&str>) -> Result<(), WordsCause>
+    ensures ok { OnOk result
+        (Says NamesFormat Format.Fold (option_map (λ text. text.now) said.entry) Format.Fold) }
+    ensures err { IfErr result (λ cause. (cause ≡ WordsCause.Value)
+        × ¬ Says NamesFormat Format.Fold (option_map (λ text. text.now) said.entry) Format.Fold) }
+{
+    match format_of(said)? {
+        Format::Fold => Ok(()),
+        Format::Cp => Err(WordsCause::Value),
+    }
+}
+
+/// The number of a frame that an option says, and 0 where it isn't given.
+fn frame_of(alloc: Global, said: Option<&str>) -> Result<u32, Status>
+    ensures ok { IfOk result (Says NamesNumber 0 (option_map (λ text. text.now) said.entry)) }
+    ensures err { IfErr result
+        (MeansNone (Says NamesNumber 0 (option_map (λ text. text.now) said.entry))) }
+{
+    match said {
+        None => Ok(0),
+        Some(text) => number_in(alloc, text)?.ok_or(Status::Words(WordsCause::Value)),
+    }
+}
+
+/// The number below 2^32 that the text spells in digits, with no zero in front.
+fn number_in(alloc: Global, text: &str) -> Result<Option<u32>, AllocError>
+    ensures { IfOk result (λ number. number ≡ id_in_text text.now) }
+{
+    match NumberText::read(alloc, text) {
+        Ok(number) => Ok(number.as_str().parse::<u32>().ok()),
+        Err(NumberReadFault::NoNumber) => Ok(None),
+        Err(NumberReadFault::Memory(error)) => Err(error),
     }
 }
 
