@@ -8,3 +8,4 @@ pub mod FirstOf
 pub mod OneFrame
 pub mod ByKey
 pub mod Elements
+pub mod Existing

@@ -1,4 +1,9 @@
-ghost use Rattle.std.specs.Prelude.{◌≡◌, ◌⊎◌, ◌↔◌, ℕ, List, Some};
+ghost use Rattle.std.specs.Prelude.{None, ◌≡◌, ◌⊎◌, ◌↔◌, ℕ, List, Some};
+ghost use Rattle.json_tree.specs.Tree.{IsProper};
+ghost use Rattle.json_tree.specs.declared.tree.Json.{Json};
+ghost use Rattle.fold_keys.specs.Shape.{misfit_of_file};
+ghost use Rattle.fold_keys.specs.Short.{HasShortLists, HasShortSpec};
+ghost use Rattle.fold_keys.specs.Trees.{tree_of_file};
 ghost use Rattle.fold_keys.specs.Writable.{IsWritable};
 ghost use Rattle.fold_keys.specs.declared.value.Entry.{Entry};
 ghost use Rattle.fold_keys.specs.declared.value.FoldFile.{FoldFile as File};
@@ -33,3 +38,10 @@ pub fn inherited_by_key()
 {
     writable_entries();
 }
+
+/// Each tree without misfit is the tree of a file that can be written.
+pub fn trees_have_files()
+    ensures { (tree : Json) → IsProper tree → HasShortLists tree → HasShortSpec tree →
+        misfit_of_file tree ≡ None →
+        (file : File) × (tree_of_file file ≡ tree) × IsWritable file }
+{}

@@ -14,6 +14,9 @@ use crate::notes::note;
 use crate::status::Status;
 use crate::words::{Command, read_words};
 use fold_base::{CalmSink, CalmSource, List, Sink, Source, Text, write_all_bytes};
+use fold_frames::{one_effective_frame, trees_have_files};
+use fold_keys::{read_trees_are_readable, written_reads_back};
+use json_tree::spelled_trees_are_proper;
 use std::alloc::Global;
 
 /// Does what the words say with the bytes of the source.
@@ -76,6 +79,11 @@ pub fn one_outcome()
 {
     cp_lines::one_reading();
     json_read::one_reading();
+    spelled_trees_are_proper();
+    read_trees_are_readable();
+    trees_have_files();
+    written_reads_back();
+    one_effective_frame();
 }
 
 /// Words of the plain form mean the command that they say, and are never refused.

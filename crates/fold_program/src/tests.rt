@@ -1,7 +1,7 @@
 use crate::arguments::words_after_name;
 use crate::run::{run, run_calm};
 use crate::status::{Limit, ShapeCause, Status, TextFault, WordsCause};
-use crate::words::{Command, Format, ShowOptions, read_words};
+use crate::words::{Command, ConvertOptions, Format, ShowOptions, read_words};
 use cp_lines::{CpCause, CpFault};
 use fold_base::{CalmSink, List, MemorySink, MemorySource, Text};
 use fold_keys::{ShapeFault, ShapeKind};
@@ -165,6 +165,11 @@ fn shows_fold_text(rt: HostRuntime) -> Result<(), Fail> {
             b"{\"file_frames\":[{\"frame_title\":\"a\"}],\"a:b\":[1.0]}\n",
         ),
         shown_fold(b" {} ", b"{}\n"),
+        shown_fold(
+            b"{\"file_spec\":1.2000000000000000004}",
+            b"{\"file_spec\":1.2000000000000000004}\n",
+        ),
+        shown_fold(b"{\"file_spec\":-1e30}", b"{\"file_spec\":-1e30}\n"),
     ];
     for row in rows {
         check(&rt, rt.alloc(), row)?;
@@ -175,12 +180,28 @@ fn shows_fold_text(rt: HostRuntime) -> Result<(), Fail> {
 #[test]
 fn names_the_first_fault_of_fold_text(rt: HostRuntime) -> Result<(), Fail> {
     use JsonCause::{Byte, Deep, Ended, KeyTwice};
-    let rows: [(&[u8], u32, JsonCause, &[u8]); 7] = [
+    let rows: [(&[u8], u32, JsonCause, &[u8]); 13] = [
         (
             b"{\"a\":1,\"a\":2}",
             9,
             KeyTwice,
             b"fold_program: json fault at 9: key twice\n",
+        ),
+        (
+            b"{\"a\":1,\"\\u0061\":2}",
+            14,
+            KeyTwice,
+            b"fold_program: json fault at 14: key twice\n",
+        ),
+        (b"\"\xc0", 1, Byte, b"fold_program: json fault at 1: byte\n"),
+        (b"\"\xe0\x80", 2, Byte, b"fold_program: json fault at 2: byte\n"),
+        (b"\"\xed\xa0", 2, Byte, b"fold_program: json fault at 2: byte\n"),
+        (b"\"\xf4\x90", 2, Byte, b"fold_program: json fault at 2: byte\n"),
+        (
+            b"\xef\xbb\xbf{}",
+            0,
+            Byte,
+            b"fold_program: json fault at 0: byte\n",
         ),
         (b"[1,]", 3, Byte, b"fold_program: json fault at 3: byte\n"),
         (b"[1,", 3, Ended, b"fold_program: json fault at 3: ended\n"),
@@ -213,7 +234,22 @@ fn names_the_first_fault_of_fold_text(rt: HostRuntime) -> Result<(), Fail> {
 #[test]
 fn names_the_first_misfit(rt: HostRuntime) -> Result<(), Fail> {
     use ShapeKind::{Length, Letter, NotKind, Side, Spec};
-    let rows: [(&[u8], (u32, &str, u32, ShapeKind), &[u8]); 10] = [
+    let rows: [(&[u8], (u32, &str, u32, ShapeKind), &[u8]); 13] = [
+        (
+            b"{\"file_spec\":1.2000000000000000005}",
+            (0, "file_spec", 0, Spec),
+            b"fold_program: frame 0 key file_spec index 0: spec\n",
+        ),
+        (
+            b"{\"file_spec\":1e30}",
+            (0, "file_spec", 0, Spec),
+            b"fold_program: frame 0 key file_spec index 0: spec\n",
+        ),
+        (
+            b"[[[[[[[[[[[[[[[[[[[[[[[[[[[[[[[[[[[[[[[[[[[[[[[[[[[[[[[[[[[[[[[[\
+              ]]]]]]]]]]]]]]]]]]]]]]]]]]]]]]]]]]]]]]]]]]]]]]]]]]]]]]]]]]]]]]]]",            (0, "", 0, NotKind),
+            b"fold_program: frame 0 key  index 0: not kind\n",
+        ),
         (
             b"[1]",
             (0, "", 0, NotKind),
@@ -268,6 +304,114 @@ fn names_the_first_misfit(rt: HostRuntime) -> Result<(), Fail> {
     for (input, place, notes) in rows {
         let row = misfit(rt.alloc(), input, place, notes)?;
         assert_eq!(rt; row.status.code(), 3);
+        check(&rt, rt.alloc(), row)?;
+    }
+    Ok(())
+}
+
+/// A file whose frames inherit from one another.
+const FRAMES: &[u8] = b"{\"vertices_coords\":[[0,0]],\"frame_title\":\"a\",\"file_frames\":[\
+    {\"frame_parent\":0,\"frame_inherit\":true,\"frame_title\":\"b\"},\
+    {\"frame_parent\":1,\"frame_inherit\":true,\"x:y\":7}]}";
+
+#[test]
+fn converts_a_frame(rt: HostRuntime) -> Result<(), Fail> {
+    let rows: [(&[&str], &[u8], &[u8]); 5] = [
+        (
+            &["convert", "--frame=2"],
+            FRAMES,
+            b"{\"vertices_coords\":[[0,0]],\"frame_title\":\"b\",\"x:y\":7}\n",
+        ),
+        (
+            &["convert"],
+            FRAMES,
+            b"{\"vertices_coords\":[[0,0]],\"frame_title\":\"a\"}\n",
+        ),
+        // What the file says of itself comes first, also by keys that aren't known.
+        (
+            &["convert", "--frame=1"],
+            b"{\"a\":1,\"file_b\":[],\"file_frames\":[{\"c\":1,\"file_title\":2}],\"file_spec\":1.1}",
+            b"{\"file_b\":[],\"file_spec\":1.1,\"c\":1}\n",
+        ),
+        // A way that comes back is a fault of the frames on it alone.
+        (
+            &["convert"],
+            b"{\"vertices_coords\":[[0,0]],\"file_frames\":[{\"frame_inherit\":true,\"frame_parent\":1}]}",
+            b"{\"vertices_coords\":[[0,0]]}\n",
+        ),
+        (&["convert", "--to=fold"], b"{}", b"{}\n"),
+    ];
+    for (words, input, output) in rows {
+        let row = Row {
+            words,
+            ..shown_fold(input, output)
+        };
+        check(&rt, rt.alloc(), row)?;
+    }
+    Ok(())
+}
+
+#[test]
+fn names_a_frame_that_cannot_be_had(rt: HostRuntime) -> Result<(), Fail> {
+    let rows: [(&[u8], ShapeCause, &[u8]); 3] = [
+        (
+            b"{\"file_frames\":[{}]}",
+            ShapeCause::NoFrame { frame: 2 },
+            b"fold_program: no frame 2\n",
+        ),
+        (
+            b"{\"file_frames\":[{\"frame_parent\":1,\"frame_inherit\":true},\
+              {\"frame_parent\":2,\"frame_inherit\":true}]}",
+            ShapeCause::ParentLoop { frame: 2 },
+            b"fold_program: parent loop 2\n",
+        ),
+        (
+            b"{\"file_frames\":[{\"frame_parent\":9,\"frame_inherit\":true},\
+              {\"frame_parent\":1,\"frame_inherit\":true}]}",
+            ShapeCause::ParentRange { frame: 1 },
+            b"fold_program: parent range 1\n",
+        ),
+    ];
+    for (input, cause, notes) in rows {
+        let row = Row {
+            words: &["convert", "--frame=2"],
+            status: Status::Shape(cause),
+            notes,
+            ..shown_fold(input, b"")
+        };
+        assert_eq!(rt; row.status.code(), 3);
+        check(&rt, rt.alloc(), row)?;
+    }
+    Ok(())
+}
+
+#[test]
+fn names_lists_that_do_not_agree(rt: HostRuntime) -> Result<(), Fail> {
+    use ShapeKind::{IdRange, NotKind, Uneven};
+    let rows: [(&[u8], (u32, &str, u32, ShapeKind), &[u8]); 3] = [
+        (
+            b"{\"vertices_coords\":[[0,0],[1,0]],\"edges_vertices\":[[0,1],[0,9]]}",
+            (0, "edges_vertices", 1, IdRange),
+            b"fold_program: frame 0 key edges_vertices index 1: id range\n",
+        ),
+        (
+            b"{\"edges_assignment\":[\"B\",\"B\"],\"edges_vertices\":[[0,1]],\"vertices_coords\":[]}",
+            (0, "edges_assignment", 2, Uneven),
+            b"fold_program: frame 0 key edges_assignment index 2: uneven\n",
+        ),
+        // A misfit of another frame comes first.
+        (
+            b"{\"edges_vertices\":[[0,1]],\"vertices_coords\":[],\"file_frames\":[3]}",
+            (1, "", 0, NotKind),
+            b"fold_program: frame 1 key  index 0: not kind\n",
+        ),
+    ];
+    for (input, place, notes) in rows {
+        let row = Row {
+            words: &["convert"],
+            failing_notes: &[],
+            ..misfit(rt.alloc(), input, place, notes)?
+        };
         check(&rt, rt.alloc(), row)?;
     }
     Ok(())
@@ -374,6 +518,42 @@ fn reads_words(rt: HostRuntime) -> Result<(), Fail> {
         let read = read_words(rt.alloc(), &words);
         let expected = match expected {
             Ok(from) => Ok(Command::Show(ShowOptions { from })),
+            Err(cause) => Err(Status::Words(cause)),
+        };
+        assert_eq!(rt; read, expected, "{words:?}");
+    }
+    Ok(())
+}
+
+#[test]
+fn reads_words_of_convert(rt: HostRuntime) -> Result<(), Fail> {
+    let refused = Err(WordsCause::Refused);
+    let value = Err(WordsCause::Value);
+    let rows: [(&[&str], Result<u32, WordsCause>); 18] = [
+        (&["convert"], Ok(0)),
+        (&["convert", "--frame=0"], Ok(0)),
+        (&["convert", "--frame=10", "--to=fold", "--from=fold"], Ok(10)),
+        (&["convert", "--frame", "7", "--"], Ok(7)),
+        (&["convert", "--frame=4294967295"], Ok(4_294_967_295)),
+        (&["convert", "--frame=4294967296"], value),
+        (&["convert", "--frame="], value),
+        (&["convert", "--frame=01"], value),
+        (&["convert", "--frame=+1"], value),
+        (&["convert", "--frame=1.0"], value),
+        (&["convert", "--frame=fold"], value),
+        (&["convert", "--from=cp"], value),
+        (&["convert", "--to=cp"], value),
+        (&["convert", "--to=opx", "--frame=1"], value),
+        (&["convert", "--frame=1", "--frame=1"], refused),
+        (&["convert", "--number=exact"], refused),
+        (&["convert", "7"], refused),
+        (&["show", "--frame=0"], refused),
+    ];
+    for (words, expected) in rows {
+        let words = strings(rt.alloc(), words)?;
+        let read = read_words(rt.alloc(), &words);
+        let expected = match expected {
+            Ok(frame) => Ok(Command::Convert(ConvertOptions { frame })),
             Err(cause) => Err(Status::Words(cause)),
         };
         assert_eq!(rt; read, expected, "{words:?}");
@@ -512,6 +692,11 @@ fn ignores_faults_of_notes(rt: HostRuntime) -> Result<(), Fail> {
     let rows = [
         refused(&["fly"], WordsCause::Refused, b""),
         faulty(b"2 0 0 1\n", (1, 8, CpCause::Byte), b""),
+        Row {
+            words: &["convert", "--frame=3"],
+            status: Status::Shape(ShapeCause::NoFrame { frame: 3 }),
+            ..shown_fold(FRAMES, b"")
+        },
     ];
     for row in rows {
         let unheard = Row {
