@@ -1,7 +1,7 @@
 -- what a tree without misfit at a key is the tree of
-use Rattle.std.proofs.Common.{◌≡◌, ◌⊎◌, inl, inr, ℕ, suc, ℤ, pos, negsuc, List, [], ◌∷◌, map, length, cond, refl, sym, ◌∙◌, ap, subst, Bool, true, false, Option, Some, None, ◌==◌, arith}
+use Rattle.std.proofs.Common.{◌≡◌, ◌⊎◌, inl, inr, ℕ, suc, ℤ, pos, negsuc, List, [], ◌∷◌, map, length, refl, sym, ◌∙◌, ap, Bool, true, false, Option, Some, None, ◌==◌, arith}
 use Rattle.std.specs.Prelude.{codes, is_some, ◌&&◌, ◌||◌, if◌then◌else◌, option_map}
-use Rattle.std.specs.Fmt.{decimal, signed_decimal}
+use Rattle.std.specs.Fmt.{signed_decimal}
 use Rattle.std.specs.List.{list_all, list_any}
 use Rattle.std.specs.Str.{bytes_eq}
 use Rattle.std.proofs.lemmas.Bool.{and_parts, or_cases, eqb-true}
@@ -9,16 +9,15 @@ use Rattle.std.proofs.lemmas.Slice.Eq.{bytes_eq-Decides}
 use Rattle.fold_base.specs.Letter.{spelling}
 use Rattle.fold_base.specs.declared.letter.Letter.{Letter}
 use Rattle.fold_base.specs.declared.letter.Letter.TheVariants.{Border, Mountain, Valley, Flat, Unassigned, Cut, Join}
-use Rattle.json_tree.specs.declared.tree.Json.{Json, Json-F, out-Json, roll-Json, roll-out-Json, Null, Truth, Number, Word}
+use Rattle.json_tree.specs.declared.tree.Json.{Json, Json-F, out-Json, roll-Json, roll-out-Json, Null, Number, Word}
 use Rattle.json_tree.specs.declared.tree.Json.TheOpen as layers
 use Rattle.json_tree.specs.declared.tree.Json.TheViews as trees
 use Rattle.json_tree.specs.declared.tree.Member.{Member}
 use Rattle.fold_keys.specs.Along.{first_along, or_else}
-use Rattle.fold_keys.specs.Elements.{is_number, is_number_layer, is_word, is_word_layer, is_truth, is_truth_layer, is_id, id_in, id_in_layer, id_in_text, or_null, is_null_layer, is_letter, is_side, misfit_of_plain, misfit_of_members, misfit_of_inner, misfit_of_all, misfit_of_pair, misfit_of_coords, misfit_of_letter, misfit_of_letter_layer, misfit_of_order, misfit_of_order_layer, misfit_of_order_members, misfit_of_side_layer}
+use Rattle.fold_keys.specs.Elements.{is_number, is_number_layer, is_word, is_word_layer, is_truth, is_truth_layer, is_id, id_in_layer, id_in_text, or_null, is_null_layer, is_letter, is_side, misfit_of_plain, misfit_of_members, misfit_of_inner, misfit_of_all, misfit_of_pair, misfit_of_coords, misfit_of_letter, misfit_of_letter_layer, misfit_of_order, misfit_of_order_layer, misfit_of_order_members, misfit_of_side_layer}
 use Rattle.fold_keys.specs.Found.{misfit_at_kind, IsFound}
 use Rattle.fold_keys.specs.Reading.{Misfit, misfit_at}
-use Rattle.fold_keys.specs.Shape.{of_one, of_list, of_list_layer, of_spec, of_spec_layer, whole, misfit_of_value}
-use Rattle.fold_keys.specs.Spec.{is_above_spec}
+use Rattle.fold_keys.specs.Shape.{of_one, of_list, of_list_layer, of_spec, of_spec_layer}
 use Rattle.fold_keys.specs.Trees.{tree_of_number, tree_of_word, tree_of_truth, tree_of_id, tree_or_null, tree_of_all, tree_of_pair, tree_of_letter, tree_of_side, tree_of_order}
 use Rattle.fold_keys.specs.declared.fault.ShapeKind.{ShapeKind}
 use Rattle.fold_keys.specs.declared.fault.ShapeKind.TheVariants as causes
@@ -26,7 +25,6 @@ use Rattle.fold_keys.specs.declared.kind.Kind.{Kind}
 use Rattle.fold_keys.specs.declared.kind.Kind.TheVariants as kinds
 use Rattle.fold_keys.specs.declared.reading.Found.{Found}
 use Rattle.fold_keys.specs.declared.reading.Found.TheVariants as found
-use Rattle.fold_keys.specs.declared.value.FaceOrder.{FaceOrder}
 use Rattle.fold_keys.specs.declared.value.Value.TheVariants as values
 use Rattle.fold_keys.proofs.IdTexts.{id_spelled}
 use Rattle.fold_keys.proofs.Sides.{side_one, side_minus_one, side_zero}

@@ -1,6 +1,6 @@
 -- a tree without misfit is the tree of a file
-use Rattle.std.proofs.Common.{◌≡◌, ℕ, suc, ◌+◌, ◌<◌, ◌==◌, List, [], ◌∷◌, ◌++◌, map, length, refl, sym, ◌∙◌, ap, subst, Bool, true, false, Option, Some, None, Ok, append_assoc, append-nil, length-append, arith}
-use Rattle.std.specs.Prelude.{option_map, option_and_then, if◌then◌else◌}
+use Rattle.std.proofs.Common.{◌≡◌, ℕ, suc, ◌==◌, List, [], ◌∷◌, ◌++◌, length, refl, sym, ◌∙◌, ap, subst, Bool, true, false, Option, Some, None, append_assoc, append-nil, length-append, arith}
+use Rattle.std.specs.Prelude.{option_map, if◌then◌else◌}
 use Rattle.std.specs.List.{AllByRecursion}
 use Rattle.std.specs.Option.{option_or, unwrap_or}
 use Rattle.json_tree.specs.Tree.{keys, AreDistinct, HasDistinctKeys, IsProper}
@@ -11,14 +11,13 @@ use Rattle.json_tree.specs.declared.tree.Json.TheViews as trees
 use Rattle.json_tree.specs.declared.tree.Member.{Member}
 use Rattle.fold_keys.specs.Along.{first_along, or_else}
 use Rattle.fold_keys.specs.Found.{misfit_at_kind, IsFound}
-use Rattle.fold_keys.specs.Frames.{others_in, HaveMembers, HasTree, IsEntryOf, AreEntriesOf, IsFrameOf, AreOthersOf, AnswersOthers}
+use Rattle.fold_keys.specs.Frames.{HaveMembers, HasTree, IsEntryOf, AreEntriesOf, IsFrameOf}
 use Rattle.fold_keys.specs.Reading.{Misfit}
-use Rattle.fold_keys.specs.Shape.{kind_at, misfit_of_member, misfit_of_members, misfit_of_frame, misfit_of_frame_layer, misfit_of_file, others_among, others_of_layer, other_frames}
+use Rattle.fold_keys.specs.Shape.{kind_at, misfit_of_member, misfit_of_frame, misfit_of_frame_layer, misfit_of_file, others_among, others_of_layer, other_frames}
 use Rattle.fold_keys.specs.Short.{HasShortLists, HasShortSpec}
-use Rattle.fold_keys.specs.Trees.{member_of, tree_of_frame, tree_of_file}
+use Rattle.fold_keys.specs.Trees.{tree_of_file}
 use Rattle.fold_keys.specs.Writable.{IsWritable}
 use Rattle.fold_keys.specs.declared.fault.ShapeFault.{ShapeFault}
-use Rattle.fold_keys.specs.declared.kind.Kind.{Kind}
 use Rattle.fold_keys.specs.declared.reading.Found.{Found}
 use Rattle.fold_keys.specs.declared.reading.Found.TheVariants as found
 use Rattle.fold_keys.specs.declared.value.Entry.{Entry}

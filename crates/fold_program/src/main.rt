@@ -1,7 +1,8 @@
 //! A verified tool for origami crease patterns.
 //!
 //! `fold_program show` reads a FOLD file, which is JSON, from standard input and writes it in
-//! printed form; `fold_program show --from=cp` does so with CP text.
+//! printed form; `fold_program show --from=cp` does so with CP text. `fold_program convert --frame=2`
+//! writes frame 2 of a FOLD file, with all that it inherits, as a file of its own.
 #![tactic(auto)]
 
 mod act;

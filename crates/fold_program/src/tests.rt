@@ -194,9 +194,24 @@ fn names_the_first_fault_of_fold_text(rt: HostRuntime) -> Result<(), Fail> {
             b"fold_program: json fault at 14: key twice\n",
         ),
         (b"\"\xc0", 1, Byte, b"fold_program: json fault at 1: byte\n"),
-        (b"\"\xe0\x80", 2, Byte, b"fold_program: json fault at 2: byte\n"),
-        (b"\"\xed\xa0", 2, Byte, b"fold_program: json fault at 2: byte\n"),
-        (b"\"\xf4\x90", 2, Byte, b"fold_program: json fault at 2: byte\n"),
+        (
+            b"\"\xe0\x80",
+            2,
+            Byte,
+            b"fold_program: json fault at 2: byte\n",
+        ),
+        (
+            b"\"\xed\xa0",
+            2,
+            Byte,
+            b"fold_program: json fault at 2: byte\n",
+        ),
+        (
+            b"\"\xf4\x90",
+            2,
+            Byte,
+            b"fold_program: json fault at 2: byte\n",
+        ),
         (
             b"\xef\xbb\xbf{}",
             0,
@@ -247,7 +262,8 @@ fn names_the_first_misfit(rt: HostRuntime) -> Result<(), Fail> {
         ),
         (
             b"[[[[[[[[[[[[[[[[[[[[[[[[[[[[[[[[[[[[[[[[[[[[[[[[[[[[[[[[[[[[[[[[\
-              ]]]]]]]]]]]]]]]]]]]]]]]]]]]]]]]]]]]]]]]]]]]]]]]]]]]]]]]]]]]]]]]]",            (0, "", 0, NotKind),
+              ]]]]]]]]]]]]]]]]]]]]]]]]]]]]]]]]]]]]]]]]]]]]]]]]]]]]]]]]]]]]]]]]",
+            (0, "", 0, NotKind),
             b"fold_program: frame 0 key  index 0: not kind\n",
         ),
         (
@@ -532,7 +548,10 @@ fn reads_words_of_convert(rt: HostRuntime) -> Result<(), Fail> {
     let rows: [(&[&str], Result<u32, WordsCause>); 18] = [
         (&["convert"], Ok(0)),
         (&["convert", "--frame=0"], Ok(0)),
-        (&["convert", "--frame=10", "--to=fold", "--from=fold"], Ok(10)),
+        (
+            &["convert", "--frame=10", "--to=fold", "--from=fold"],
+            Ok(10),
+        ),
         (&["convert", "--frame", "7", "--"], Ok(7)),
         (&["convert", "--frame=4294967295"], Ok(4_294_967_295)),
         (&["convert", "--frame=4294967296"], value),
