@@ -173,7 +173,7 @@ impl Effective {
             .or(self.uneven_of(Part::Faces))
     }
 
-    /// The first list with an id of something that isn't there, and the place of its element.
+    /// The first list with an id that isn't below a known count, and the place of its element.
     fn past(&self) -> Option<(&'static str, u32)>
         ensures { option_map (λ at. (at.0.now, at.1)) result ≡ first_past self.now.entries }
     {
