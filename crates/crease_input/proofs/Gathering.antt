@@ -17,7 +17,7 @@ use Rattle.crease_input.specs.declared.fault.InputFault.TheVariants as faults
 use Rattle.crease_input.proofs.Points.{Gathered, with_ends, gathered_none, gathered_more, gathered_within}
 use Rattle.crease_input.proofs.Unread.{line_refused}
 
-zip_more : {A B : Type 0} (R : A → B → Type 0) (xs : List A) (ys : List B) (x : A) (y : B)
+pub zip_more : {A B : Type 0} (R : A → B → Type 0) (xs : List A) (ys : List B) (x : A) (y : B)
     → AllZip R xs ys → R x y → AllZip R (xs ++ x ∷ []) (ys ++ y ∷ [])
 zip_more R [] [] x y all here = (here, tt)
 zip_more R [] (b ∷ bs) x y all here = absurd all

@@ -1,3 +1,4 @@
 pub mod Points
 pub mod Unread
 pub mod Gathering
+pub mod Texted

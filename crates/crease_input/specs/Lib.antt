@@ -1,3 +1,5 @@
 pub mod Points
 pub mod Keys
 pub mod Lines
+pub mod Roots
+pub mod Files

@@ -5,8 +5,13 @@
 mod corner;
 mod crease;
 mod fault;
+mod file;
 mod lines;
 mod reading;
+mod root;
+mod texts;
 
 pub use fault::{Axis, Counted, InputFault};
+pub use file::drawing_file;
 pub use lines::{all_lines_ends, lines_ends};
+pub use root::frame_root;
