@@ -2,3 +2,4 @@ pub mod Points
 pub mod Unread
 pub mod Gathering
 pub mod Texted
+pub mod Drawn

@@ -14,6 +14,7 @@ use Rattle.scaled_plane.specs.declared.drawing.Edge.{Edge}
 use Rattle.scaled_plane.specs.declared.drawing.Ends.{Ends}
 use Rattle.scaled_plane.specs.declared.drawing.Face.{Face}
 use Rattle.scaled_plane.specs.declared.point.Pair.{Pair}
+use Rattle.crease_input.specs.Lines.{IsEdgeWithin}
 
 -- ---- what is asked
 
@@ -21,22 +22,40 @@ use Rattle.scaled_plane.specs.declared.point.Pair.{Pair}
 abbrev pub HasShortParts : {N : Type 0} → (N → Parts) → Pair N → Type 0
 HasShortParts parts p = AreShort (parts p.x) × AreShort (parts p.y)
 
--- ids can count the corners
-abbrev pub HasShortCorners : Face → Type 0
-HasShortCorners face = length face.corners < 2 ^ 32
+-- the corners are vertices
+abbrev pub HasCornersWithin : ℕ → Face → Type 0
+HasCornersWithin vertices face =
+    (length face.corners < 2 ^ 32) × AllByRecursion (λ corner. corner < vertices) face.corners
 
--- the side is one of -1, 0 and 1
-abbrev pub HasSide : FaceOrder → Type 0
-HasSide order = (negsuc 0 ≤ℤ order.side) × (order.side ≤ℤ pos 1)
+abbrev pub AreFacesWithin : ℕ → Option (List Face) → Type 0
+AreFacesWithin vertices None = Unit {0}
+AreFacesWithin vertices (Some faces) =
+    (length faces < 2 ^ 32) × AllByRecursion (HasCornersWithin vertices) faces
 
--- ids can count these
-abbrev pub AreShortFaces : Option (List Face) → Type 0
-AreShortFaces None = Unit {0}
-AreShortFaces (Some faces) = (length faces < 2 ^ 32) × AllByRecursion HasShortCorners faces
+-- how many faces orders may name: those that are given, or any that ids can tell
+abbrev pub face_count : Option (List Face) → ℕ
+face_count None = 2 ^ 32
+face_count (Some faces) = length faces
 
-abbrev pub AreShortOrders : Option (List FaceOrder) → Type 0
-AreShortOrders None = Unit {0}
-AreShortOrders (Some orders) = (length orders < 2 ^ 32) × AllByRecursion HasSide orders
+-- an order of two faces, whose side is one of -1, 0 and 1
+pub record IsOrderWithin (faces : ℕ) (order : FaceOrder) : Type 0 where
+  pub first : order.first < faces
+  pub second : order.second < faces
+  pub side : (negsuc 0 ≤ℤ order.side) × (order.side ≤ℤ pos 1)
+
+abbrev pub AreOrdersWithin : ℕ → Option (List FaceOrder) → Type 0
+AreOrdersWithin faces None = Unit {0}
+AreOrdersWithin faces (Some orders) =
+    (length orders < 2 ^ 32) × AllByRecursion (IsOrderWithin faces) orders
+
+-- a drawing that has a file: short coordinates, ids of what is there, and no more than ids can count
+pub record IsFileable {N : Type 0} (parts : N → Parts) (ends : Ends N) (faces : Option (List Face)) (orders : Option (List FaceOrder)) : Type 0 where
+  pub coords : AllByRecursion (HasShortParts parts) ends.coords
+  pub few_vertices : length ends.coords < 2 ^ 32
+  pub few_edges : length ends.edges < 2 ^ 32
+  pub edges : AllByRecursion (IsEdgeWithin (length ends.coords)) ends.edges
+  pub faces_fit : AreFacesWithin (length ends.coords) faces
+  pub orders_fit : AreOrdersWithin (face_count faces) orders
 
 -- ---- entries
 

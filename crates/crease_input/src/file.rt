@@ -1,10 +1,10 @@
 // The file of a drawing.
-ghost use Rattle.std.specs.Prelude.{◌≡◌, ◌<◌, ◌≤◌, ◌^◌, ◌++◌, ◌∷◌, [], length, map, IfOk, OnOk, Some, List as Items};
+ghost use Rattle.std.specs.Prelude.{◌≡◌, ◌<◌, ◌≤◌, ◌^◌, ◌++◌, ◌∷◌, [], length, map, IfOk, OnOk, Some, true, List as Items};
 ghost use Rattle.std.specs.List.{AllByRecursion};
 ghost use Rattle.std.specs.Option.{option_copied};
-ghost use Rattle.fold_keys.specs.Writable.{IsWritable, file_of};
+ghost use Rattle.fold_keys.specs.Writable.{IsWritable, AreWritable, file_of};
 ghost use Rattle.fold_keys.specs.declared.value.Entry.{Entry as AnyEntry};
-ghost use Rattle.crease_input.specs.Files.{HasShortParts, AreShortFaces, AreShortOrders, AreVertexEntries, IsDrawingFile, entry, head_entries, edge_entries, face_entries, order_entries};
+ghost use Rattle.crease_input.specs.Files.{HasShortParts, IsFileable, AreVertexEntries, IsDrawingFile, entry, head_entries, edge_entries, face_entries, order_entries};
 
 use crate::texts::{are_nine_decimals, exact_texts, nine_texts_of, number};
 use exact_number::Exact;
@@ -84,7 +84,8 @@ fn put_edges(
     let pairs = List::from_vec(pairs_of(alloc, edges)?);
     put(alloc, entries, "edges_vertices", Value::Pairs(pairs))?;
     let letters = List::from_vec(letters_of(alloc, edges)?);
-    put(alloc, entries, "edges_assignment", Value::Letters(letters))
+    put(alloc, entries, "edges_assignment", Value::Letters(letters))?;
+    Ok(())
 }
 
 /// The corners of a face, each as an id that is there.
@@ -118,7 +119,8 @@ fn put_faces(
         return Ok(());
     };
     let lists = corner_lists(alloc, faces.as_slice())?;
-    put(alloc, entries, "faces_vertices", Value::IdLists(lists))
+    put(alloc, entries, "faces_vertices", Value::IdLists(lists))?;
+    Ok(())
 }
 
 fn put_orders(
@@ -137,8 +139,11 @@ fn put_orders(
 
 /// A file of one frame.
 fn file_of(alloc: Global, entries: List<Entry>) -> Result<FoldFile, AllocError>
-    ensures { IfOk result (λ file. file ≡ file_of entries) }
+    requires { AreWritable true entries }
+    ensures file { IfOk result (λ file. file ≡ file_of entries) }
+    ensures writable { IfOk result (λ file. IsWritable file) }
 {
+    writable_entries();
     let mut frames = List::new(alloc);
     frames.push(Frame { entries }).map_err(AllocError::from)?;
     Ok(FoldFile { frames })
@@ -153,16 +158,11 @@ pub fn drawing_file<N: Exact>(
     faces: Option<&List<Face>>,
     orders: Option<&List<FaceOrder>>,
 ) -> Result<FoldFile, AllocError>
-    requires parts { AllByRecursion (HasShortParts N.parts) ends.now.coords }
-    requires vertices { length ends.now.coords < 2 ^ 32 }
-    requires edges { length ends.now.edges < 2 ^ 32 }
-    requires faces { AreShortFaces (option_copied faces) }
-    requires orders { AreShortOrders (option_copied orders) }
+    requires { IsFileable N.parts ends.now (option_copied faces) (option_copied orders) }
     ensures file { IfOk result (λ file. IsDrawingFile N.ROOT N.parts class.now ends.now
         (option_copied faces.entry) (option_copied orders.entry) file) }
     ensures writable { IfOk result (λ file. IsWritable file) }
 {
-    writable_entries();
     let mut entries = head(alloc, class)?;
     put_vertices(alloc, &mut entries, ends.coords.as_slice())?;
     put_edges(alloc, &mut entries, ends.edges.as_slice())?;
