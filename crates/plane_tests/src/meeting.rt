@@ -177,8 +177,8 @@ fn parts<N: Exact>(point: Option<Pair<N>>) -> Option<(Parts, Parts)> {
 }
 
 fn diagonal_crossing<N: Exact>(rt: &impl Abort) -> Option<(Parts, Parts)> {
-    let s = segment::<N::Ring>((0, 0), (2, 3)).expect(rt, "small");
-    let t = segment::<N::Ring>((0, 3), (2, 0)).expect(rt, "small");
+    let s = segment::<N::Ring>((0, 0), (2, 3), Letter::Mountain).expect(rt, "small");
+    let t = segment::<N::Ring>((0, 3), (2, 0), Letter::Mountain).expect(rt, "small");
     parts(exact_crossing::<N>(rt, s, t, 12))
 }
 
