@@ -27,8 +27,10 @@ fn cross_pair<W: Whole, L: Ledger>(
     requires second { IsUsable W.numbers t }
     requires first_ends { HasEnds W.numbers.ring (map (λ v. v.point) found.old.keys) s }
     requires second_ends { HasEnds W.numbers.ring (map (λ v. v.point) found.old.keys) t }
+    requires few { length found.old.keys ≤ 16384 }
     ensures grows { Grows W.numbers.ring (IsCrossed W.numbers.ring s t) (map (λ v. v.point) found.old.keys) (map (λ v. v.point) found.new.keys) }
     ensures has { OnOk result (HasCrossing W.numbers.ring (map (λ v. v.point) found.new.keys) s t) }
+    ensures few { OnOk result (length found.new.keys ≤ 16384) }
     ensures too_many { IfErr result (λ e. e ≡ PieceFault.TooMany → IsTooMany W.numbers.ring (map (λ v. v.point) found.new.keys)) }
     ensures counted { steps.new ≡ steps.old + 1 }
 {
@@ -64,8 +66,10 @@ fn cross_with<W: Whole, L: Ledger>(
     requires others { All (λ t. IsSpan W.numbers t.segment t.left.point t.right.point) near.now }
     requires first_ends { HasEnds W.numbers.ring (map (λ v. v.point) found.old.keys) s }
     requires other_ends { (t : AnySegment W) → Contains (map (λ t. t.segment) near.now) t → HasEnds W.numbers.ring (map (λ v. v.point) found.old.keys) t }
+    requires few { length found.old.keys ≤ 16384 }
     ensures grows { Grows W.numbers.ring (IsCrossedBy W.numbers.ring s (map (λ t. t.segment) near.now)) (map (λ v. v.point) found.old.keys) (map (λ v. v.point) found.new.keys) }
     ensures has { OnOk result ((t : AnySegment W) → Contains (map (λ t. t.segment) near.now) t → HasCrossing W.numbers.ring (map (λ v. v.point) found.new.keys) s t) }
+    ensures few { OnOk result (length found.new.keys ≤ 16384) }
     ensures too_many { IfErr result (λ e. e ≡ PieceFault.TooMany → IsTooMany W.numbers.ring (map (λ v. v.point) found.new.keys)) }
     ensures counted { OnOk result (steps.new ≡ steps.old + length near.now) }
     ensures counted_at_most { (steps.old ≤ steps.new) × (steps.new ≤ steps.old + length near.now) }
@@ -89,8 +93,10 @@ fn cross_near<W: Whole, L: Ledger>(
     requires in_order { AllPairs (λ s t. IsTrue (is_le (point_order W.numbers.ring s.left.point t.left.point))) rest.now }
     requires first_ends { HasEnds W.numbers.ring (map (λ v. v.point) found.old.keys) span.now.segment }
     requires other_ends { (t : AnySegment W) → Contains (map (λ t. t.segment) rest.now) t → HasEnds W.numbers.ring (map (λ v. v.point) found.old.keys) t }
+    requires few { length found.old.keys ≤ 16384 }
     ensures grows { Grows W.numbers.ring (IsCrossedBy W.numbers.ring span.now.segment (map (λ t. t.segment) rest.now)) (map (λ v. v.point) found.old.keys) (map (λ v. v.point) found.new.keys) }
     ensures has { OnOk result ((t : AnySegment W) → Contains (map (λ t. t.segment) rest.now) t → HasCrossing W.numbers.ring (map (λ v. v.point) found.new.keys) span.now.segment t) }
+    ensures few { OnOk result (length found.new.keys ≤ 16384) }
     ensures too_many { IfErr result (λ e. e ≡ PieceFault.TooMany → IsTooMany W.numbers.ring (map (λ v. v.point) found.new.keys)) }
     ensures counted { OnOk result (steps.new ≡ steps.old + count_by (share_x W.numbers.ring span.now.segment) (map (λ t. t.segment) rest.now)) }
     ensures counted_at_most { (steps.old ≤ steps.new) × (steps.new ≤ steps.old + count_by (share_x W.numbers.ring span.now.segment) (map (λ t. t.segment) rest.now)) }
@@ -108,8 +114,10 @@ pub fn cross_all<W: Whole, L: Ledger>(
     requires spans { All (λ s. IsSpan W.numbers s.segment s.left.point s.right.point) spans.now }
     requires in_order { AllPairs (λ s t. IsTrue (is_le (point_order W.numbers.ring s.left.point t.left.point))) spans.now }
     requires ends { (s : AnySegment W) → Contains (map (λ s. s.segment) spans.now) s → HasEnds W.numbers.ring (map (λ v. v.point) found.old.keys) s }
+    requires few { length found.old.keys ≤ 16384 }
     ensures grows { Grows W.numbers.ring (IsCrossedIn W.numbers.ring (map (λ s. s.segment) spans.now)) (map (λ v. v.point) found.old.keys) (map (λ v. v.point) found.new.keys) }
     ensures has { OnOk result (AllPairs (HasCrossing W.numbers.ring (map (λ v. v.point) found.new.keys)) (map (λ s. s.segment) spans.now)) }
+    ensures few { OnOk result (length found.new.keys ≤ 16384) }
     ensures too_many { IfErr result (λ e. e ≡ PieceFault.TooMany → IsTooMany W.numbers.ring (map (λ v. v.point) found.new.keys)) }
     ensures counted { OnOk result (steps.new ≡ steps.old + pairs_sharing_x W.numbers.ring (map (λ s. s.segment) spans.now)) }
     ensures counted_at_most { (steps.old ≤ steps.new) × (steps.new ≤ steps.old + pairs_sharing_x W.numbers.ring (map (λ s. s.segment) spans.now)) }

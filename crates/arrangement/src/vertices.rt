@@ -9,7 +9,7 @@ ghost use Rattle.scaled_plane.specs.declared.point.Segment.{Segment as AnySegmen
 ghost use Rattle.arrangement.specs.Spans.{IsSpan};
 
 use crate::fault::PieceFault;
-use crate::found::{MOST_VERTICES, add_ends, vertices_of};
+use crate::found::{add_ends, vertices_of};
 use crate::span::{Span, spans_of};
 use crate::sweep::cross_all;
 use crate::vertex::Vertex;
@@ -41,9 +41,6 @@ fn vertices_of_spans<W: Whole, L: Ledger>(
     let mut found = BTreeSet::new(alloc);
     add_ends(&mut found, spans)?;
     cross_all(&mut found, spans, steps)?;
-    if found.len() > MOST_VERTICES {
-        return Err(PieceFault::TooMany);
-    }
     let vertices = vertices_of(alloc, found)?;
     Ok(vertices)
 }

@@ -13,6 +13,7 @@ pub loop-span-init : goal.loop-span-init
 loop-span-init g c = record {
   grows = grows_not g.W.Whole.numbers.ring (IsEndIn g.W.Whole.numbers.ring (map (λ s. s.segment) c.args.spans.now)) (map (λ v. v.point) c.args.found.now.keys);
   has = λ s there. absurd (in_nil s there);
+  few = c.requires.few;
 }
 
 pub returns-in_err-add_both-clause-grows : goal.returns-in_err-add_both-clause-grows
@@ -34,6 +35,7 @@ loop-span-preserved g c =
           (map (λ v. v.point) c.args.found.now.keys) (map (λ v. v.point) c.loop-span.found.keys) (map (λ v. v.point) c.add_both.new.found.keys) c.loop-span.invariant.grows c.add_both.ensures.grows;
       has = ends_more g.W.Whole.numbers.ring xs c.loop-span.span-index x within is
           (map (λ v. v.point) c.loop-span.found.keys) (map (λ v. v.point) c.add_both.new.found.keys) c.add_both.ensures.grows c.loop-span.invariant.has c.in_ok-add_both.ensures.has;
+      few = c.in_ok-add_both.ensures.few;
     }
 
 pub returns-clause-has : goal.returns-clause-has

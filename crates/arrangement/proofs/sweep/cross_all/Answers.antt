@@ -16,6 +16,7 @@ loop-place-init g c = record {
   has = λ i j d less next within. absurd (omega (arith, less));
   begun = omega arith;
   counted = refl;
+  few = c.requires.few;
 }
 
 pub cross_near-requires-clause-first : goal.cross_near-requires-clause-first
@@ -88,6 +89,7 @@ loop-place-preserved g c =
       has = has_all g.W.Whole.numbers.ring xs c.loop-place.place x within is r here (map (λ v. v.point) c.loop-place.found.keys) (map (λ v. v.point) c.cross_near.new.found.keys) c.cross_near.ensures.grows c.loop-place.invariant.has c.in_ok-cross_near.ensures.has;
       begun = (let low = c.cross_near.ensures.counted_at_most.0 in let before = c.loop-place.invariant.begun in omega (arith, low, before));
       counted = pairs_more g.W.Whole.numbers.ring xs c.loop-place.place x within is r here c.args.steps.now c.loop-place.steps c.cross_near.new.steps c.loop-place.invariant.counted c.in_ok-cross_near.ensures.counted;
+      few = c.in_ok-cross_near.ensures.few;
     }
 
 pub returns-clause-has : goal.returns-clause-has

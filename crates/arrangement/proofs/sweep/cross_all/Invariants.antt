@@ -11,4 +11,5 @@ invariant-loop-place g l = record {
       → HasCrossing g.W.Whole.numbers.ring (map (λ v. v.point) l.found.keys) (slice_index_or (map (λ s. s.segment) l.spans) i d) (slice_index_or (map (λ s. s.segment) l.spans) j d);
   begun : l.initial.steps ≤ l.steps;
   counted : l.steps + pairs_sharing_x g.W.Whole.numbers.ring (drop l.place (map (λ s. s.segment) l.spans)) ≡ l.initial.steps + pairs_sharing_x g.W.Whole.numbers.ring (map (λ s. s.segment) l.spans);
+  few : length l.found.keys ≤ 16384;
 }

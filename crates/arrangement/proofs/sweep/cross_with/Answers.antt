@@ -14,6 +14,7 @@ loop-next-init g c = record {
   grows = grows_not g.W.Whole.numbers.ring (IsCrossedBy g.W.Whole.numbers.ring c.args.s (map (λ t. t.segment) c.args.near.now)) (map (λ v. v.point) c.args.found.now.keys);
   has = λ t there. absurd (in_nil t there);
   counted = omega arith;
+  few = c.requires.few;
 }
 
 pub cross_pair-requires-clause-first_ends : goal.cross_pair-requires-clause-first_ends
@@ -49,6 +50,7 @@ loop-next-preserved g c =
       has = has_with g.W.Whole.numbers.ring c.args.s xs c.loop-next.next-index x within is
           (map (λ v. v.point) c.loop-next.found.keys) (map (λ v. v.point) c.cross_pair.new.found.keys) c.cross_pair.ensures.grows c.loop-next.invariant.has c.in_ok-cross_pair.ensures.has;
       counted = omega (arith, c.loop-next.invariant.counted, c.cross_pair.ensures.counted);
+      few = c.in_ok-cross_pair.ensures.few;
     }
 
 pub returns-clause-has : goal.returns-clause-has
