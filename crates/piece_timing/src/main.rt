@@ -1,6 +1,7 @@
 //! Cuts the segments of a drawing that it makes itself, and prints how many vertices and pieces there are with a checksum,
-//! for a clock outside. `piece_timing grid 256` has 128 lines each way; `random`, `line`, `point` and `all` have so many
-//! segments at random, along one line, through one point, and all crossing in different points.
+//! for a clock outside. `piece_timing grid 256` has 128 lines each way; `random`, `line`, `point`, `all` and
+//! `wide` have so many segments at random, along one line, through one point, all crossing in different points, and in
+//! bundles of twelve that cross each other along the whole width.
 #![tactic(auto)]
 
 ghost use Rattle.std.specs.Prelude.{◌≡◌, pos, ◌<◌, ◌≤◌, ◌<ℤ◌, ◌≤ℤ◌, All, IfSome, IfOk, OnOk};
@@ -102,6 +103,11 @@ fn way(drawing: &str, count: i128, i: i128, dice: &mut Dice) -> Way
         "line" => ((i, i), (i + count, i + count)),
         "point" => ((-4000, -i), (4000, i)),
         "all" => ((0, 1000 * i), (4000, dice.roll(512) - 1000 * i)),
+        "wide" => {
+            let low = 4000 * (i / 12);
+            let j = 100 * (i % 12);
+            ((0, low + j), (4000, low - j + dice.roll(50)))
+        }
         _ => {
             let x = dice.roll(1 << 21);
             let y = dice.roll(1 << 21);
