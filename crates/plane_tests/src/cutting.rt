@@ -1,5 +1,6 @@
 ghost use Rattle.std.specs.Prelude.{◌≡◌, ◌<◌, All, IfOk, OnOk};
 ghost use Rattle.scaled_plane.specs.Drawn.{IsScaledSegment};
+ghost use Rattle.scaled_plane.specs.WellSet.{IsWellSet};
 
 use crate::meeting::{Place, segment};
 use arrangement::{PieceFault, pieces};
@@ -16,7 +17,7 @@ use std::sync::ledger::{Blank, Ledger};
 use std::test::Fail;
 
 /// A segment by its ends and its letter.
-type Crease = (Place, Place, Letter);
+pub type Crease = (Place, Place, Letter);
 
 /// A vertex by the parts without a root.
 type Spot = (i128, i128, i128);
@@ -73,12 +74,15 @@ fn cut<W: Whole, L: Ledger>(
     requires name { blank.name ≡ L.name }
     requires parts { blank.parts ≡ L.parts }
     requires some { 0 < L.parts }
+    ensures { IfOk result (IsWellSet W.numbers) }
 {
     let mut steps: Steps<L> = Steps::new(blank);
     pieces(alloc, segments, &mut steps)
 }
 
-fn drawing_of<W: Whole>(alloc: Global, creases: &[Crease]) -> Result<Drawing<W>, PieceFault> {
+pub fn drawing_of<W: Whole>(alloc: Global, creases: &[Crease]) -> Result<Drawing<W>, PieceFault>
+    ensures { IfOk result (IsWellSet W.numbers) }
+{
     let segments = segments_of(alloc, creases)?;
     cut::<W, Brand>(alloc, Blank::new(1), &segments)
 }

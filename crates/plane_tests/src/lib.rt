@@ -1,5 +1,5 @@
 //! The plane at the rationals and at a+b√2: points that are scaled, the first that's too wide, points made exact again, and
-//! what segments have in common, and what they are cut into.
+//! what segments have in common, what they are cut into, and the walks round the faces of that.
 #![tactic(auto)]
 
 #[cfg(test)]
@@ -8,3 +8,5 @@ mod cutting;
 mod meeting;
 #[cfg(test)]
 mod scaling;
+#[cfg(test)]
+mod walking;
