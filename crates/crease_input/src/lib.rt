@@ -15,3 +15,6 @@ pub use fault::{Axis, Counted, InputFault};
 pub use file::drawing_file;
 pub use lines::{all_lines_ends, lines_ends};
 pub use root::frame_root;
+
+#[cfg(test)]
+mod tests;
