@@ -1,0 +1,4 @@
+pub mod Quotients
+pub mod Exact
+pub mod Keeping
+pub mod Refusals

@@ -1,0 +1,13 @@
+//! A drawing of segments as its vertices, the pieces between them and the faces, by exact coordinates.
+#![tactic(auto)]
+
+mod answer;
+mod coordinates;
+mod cutting;
+mod kept;
+mod options;
+mod repair;
+
+pub use answer::{Repaired, RepairFault, Stage};
+pub use options::{Faces, Flat};
+pub use repair::repair_ends;
