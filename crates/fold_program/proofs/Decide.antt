@@ -9,13 +9,14 @@ use Rattle.std.proofs.lemmas.Bool.{false≢true}
 use Rattle.std.proofs.lemmas.Option.{same_Some}
 use Rattle.clap.specs.Words.{Kinds, Row}
 use Rattle.fold_keys.specs.Elements.{id_in_text}
-use Rattle.fold_program.specs.Words.{Text, NamesFormat, NamesNumber, Says, Mean, MeanShow, MeanConvert, AreTaken, AreWordsOf, AreRefused, Reads, TakeNothing, faults, found, said_in}
+use Rattle.fold_program.specs.Words.{Text, NamesFormat, NamesNumber, Says, IsConversion, IsUnbuilt, Mean, MeanShow, MeanConvert, AreTaken, AreWordsOf, AreRefused, Reads, TakeNothing, faults, found, said_in}
 use Rattle.fold_program.specs.declared.status.Status.{Status}
 use Rattle.fold_program.specs.declared.status.Status.TheVariants.{Words}
 use Rattle.fold_program.specs.declared.status.WordsCause.TheVariants.{Refused, Value}
 use Rattle.fold_program.specs.declared.words.Command.{Command}
 use Rattle.fold_program.specs.declared.words.Command.TheVariants.{Show, Convert}
 use Rattle.fold_program.specs.declared.words.ConvertOptions.{ConvertOptions}
+use Rattle.fold_program.specs.declared.words.ConvertOptions.TheVariants.{Frame, Lines}
 use Rattle.fold_program.specs.declared.words.ShowOptions.{ShowOptions}
 use Rattle.fold_program.specs.declared.words.Format.{Format}
 use Rattle.fold_program.specs.declared.words.Format.TheVariants.{Fold, Cp}
@@ -75,10 +76,6 @@ number_or_not text = at (id_in_text text) refl
     at None e = inr (λ n h. let both : None ≡ Some n = sym e ∙ h in cc)
     at (Some n) e = inl (n, e)
 
-fold_or_not : (said : Option Text) → Says NamesFormat Fold said Fold ⊎ ¬ Says NamesFormat Fold said Fold
-fold_or_not None = inl refl
-fold_or_not (Some text) = same_text text (codes "fold")
-
 -- ---- the options of a command
 
 show_or_not : (said : Text → Option Text)
@@ -88,18 +85,65 @@ show_or_not said = elim (says_or_not NamesFormat Fold format_or_not (said (codes
   | inr none ↦ inr (λ o h. none o.from h)
 ]
 
+no_formats : Fold ≡ Cp → ⊥
+no_formats e = cc
+
+-- lines aren't converted to a FOLD file
+pub unbuilt : (said : Text → Option Text) (from to : Format)
+    → Says NamesFormat Fold (said (codes "from")) from → Says NamesFormat Fold (said (codes "to")) to
+    → IsUnbuilt from to → (o : ConvertOptions) → ¬ MeanConvert said o
+unbuilt said from to first second un o h =
+    at o h.6
+    where
+      is_from : h.0 ≡ from
+      is_from = says_one NamesFormat Fold format_one (said (codes "from")) h.0 from h.3 first
+
+      is_to : h.1 ≡ to
+      is_to = says_one NamesFormat Fold format_one (said (codes "to")) h.1 to h.4 second
+
+      at : (o : ConvertOptions) → IsConversion h.0 h.1 h.2 o → ⊥
+      at (Frame frame other) c = no_formats (sym c.0 ∙ is_from ∙ un.0)
+      at Lines c = no_formats (sym un.1 ∙ sym is_to ∙ c.1)
+
 convert_or_not : (said : Text → Option Text)
     → ((o : ConvertOptions) × MeanConvert said o) ⊎ ((o : ConvertOptions) → ¬ MeanConvert said o)
-convert_or_not said = elim (fold_or_not (said (codes "from"))) [
-  | inl from ↦ elim (fold_or_not (said (codes "to"))) [
+convert_or_not said = elim (says_or_not NamesFormat Fold format_or_not (said (codes "from"))) [
+  | inl from ↦ elim (says_or_not NamesFormat Fold format_or_not (said (codes "to"))) [
     | inl to ↦ elim (says_or_not NamesNumber 0 number_or_not (said (codes "frame"))) [
-      | inl p ↦ inl (record { frame = p.0 }, (from, to, p.1))
-      | inr none ↦ inr (λ o h. none o.frame h.2)
+      | inl frame ↦ by from.0 to.0 frame.0 from.1 to.1 frame.1
+      | inr none ↦ inr (λ o h. none h.2 h.5)
     ]
-    | inr other ↦ inr (λ o h. other h.1)
+    | inr none ↦ inr (λ o h. none h.1 h.4)
   ]
-  | inr other ↦ inr (λ o h. other h.0)
+  | inr none ↦ inr (λ o h. none h.0 h.3)
 ]
+  where
+    by : (from to : Format) (frame : ℕ) → Says NamesFormat Fold (said (codes "from")) from
+        → Says NamesFormat Fold (said (codes "to")) to → Says NamesNumber 0 (said (codes "frame")) frame
+        → ((o : ConvertOptions) × MeanConvert said o) ⊎ ((o : ConvertOptions) → ¬ MeanConvert said o)
+    by Fold to frame a b c = inl (Frame frame to, (Fold, to, frame, a, b, c, (refl, refl, refl)))
+    by Cp Cp frame a b c = inl (Lines, (Cp, Cp, frame, a, b, c, (refl, refl)))
+    by Cp Fold frame a b c = inr (unbuilt said Cp Fold a b (refl, refl))
+
+one_conversion : (from to : Format) (frame : ℕ) (o p : ConvertOptions) → IsConversion from to frame o
+    → IsConversion from to frame p → o ≡ p
+one_conversion from to frame (Frame m s) (Frame n t) a b =
+    let number : m ≡ n = sym a.2 ∙ b.2 in
+    let format : s ≡ t = sym a.1 ∙ b.1 in (λ i. Frame (number i) (format i))
+one_conversion from to frame (Frame m s) Lines a b = absurd (no_formats (sym a.0 ∙ b.0))
+one_conversion from to frame Lines (Frame n t) a b = absurd (no_formats (sym b.0 ∙ a.0))
+one_conversion from to frame Lines Lines a b = refl
+
+convert_one : (said : Text → Option Text) (o p : ConvertOptions) → MeanConvert said o
+    → MeanConvert said p → o ≡ p
+convert_one said o p h k =
+    let from = says_one NamesFormat Fold format_one (said (codes "from")) k.0 h.0 k.3 h.3 in
+    let to = says_one NamesFormat Fold format_one (said (codes "to")) k.1 h.1 k.4 h.4 in
+    let frame = says_one NamesNumber 0 number_one (said (codes "frame")) k.2 h.2 k.5 h.5 in
+    one_conversion h.0 h.1 h.2 o p h.6
+    (subst (λ n. IsConversion h.0 h.1 n p) frame
+    (subst (λ t. IsConversion h.0 t k.2 p) to
+    (subst (λ f. IsConversion f k.1 k.2 p) from k.6)))
 
 -- ---- the command
 
@@ -110,7 +154,7 @@ mean_one : (name : Text) (said : Text → Option Text) (c d : Command) → Mean 
 mean_one name said (Show o) (Show p) h k = ap (λ f. Show (record { from = f })) (says_one NamesFormat Fold format_one (said (codes "from")) o.from p.from h.1 k.1)
 mean_one name said (Show o) (Convert p) h k = absurd (two_names name h.0 k.0)
 mean_one name said (Convert o) (Show p) h k = absurd (two_names name k.0 h.0)
-mean_one name said (Convert o) (Convert p) h k = ap (λ n. Convert (record { frame = n })) (says_one NamesNumber 0 number_one (said (codes "frame")) o.frame p.frame h.1.2 k.1.2)
+mean_one name said (Convert o) (Convert p) h k = ap Convert (convert_one said o p h.1 k.1)
 
 mean_or_not : (name : Text) (said : Text → Option Text) → ((c : Command) × Mean name said c) ⊎ ((c : Command) → ¬ Mean name said c)
 mean_or_not name said = elim (same_text name (codes "show")) [

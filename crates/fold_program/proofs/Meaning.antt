@@ -105,21 +105,23 @@ pub no_format : (said : Text → Option Text) (text : Option Text) (cause : Word
 no_format said text cause is value none =
     inr (ap Words value, λ o h. none o.from (subst (λ t. Says NamesFormat Fold t o.from) (sym is) h))
 
-pub other_from : (said : Text → Option Text) (text : Option Text) (cause : WordsCause) → text ≡ said (codes "from")
-    → cause ≡ Value → ¬ Says NamesFormat Fold text Fold → MeansNone (MeanConvert said) (Words cause)
-other_from said text cause is value other =
-    inr (ap Words value, λ o h. other (subst (λ t. Says NamesFormat Fold t Fold) (sym is) h.0))
+pub no_from : (said : Text → Option Text) (text : Option Text) (cause : WordsCause) → text ≡ said (codes "from")
+    → cause ≡ Value → ((format : Format) → ¬ Says NamesFormat Fold text format)
+    → MeansNone (MeanConvert said) (Words cause)
+no_from said text cause is value none =
+    inr (ap Words value, λ o h. none h.0 (subst (λ t. Says NamesFormat Fold t h.0) (sym is) h.3))
 
-pub other_to : (said : Text → Option Text) (text : Option Text) (cause : WordsCause) → text ≡ said (codes "to")
-    → cause ≡ Value → ¬ Says NamesFormat Fold text Fold → MeansNone (MeanConvert said) (Words cause)
-other_to said text cause is value other =
-    inr (ap Words value, λ o h. other (subst (λ t. Says NamesFormat Fold t Fold) (sym is) h.1))
+pub no_to : (said : Text → Option Text) (text : Option Text) (cause : WordsCause) → text ≡ said (codes "to")
+    → cause ≡ Value → ((format : Format) → ¬ Says NamesFormat Fold text format)
+    → MeansNone (MeanConvert said) (Words cause)
+no_to said text cause is value none =
+    inr (ap Words value, λ o h. none h.1 (subst (λ t. Says NamesFormat Fold t h.1) (sym is) h.4))
 
 pub no_frame : (said : Text → Option Text) (text : Option Text) (status : Status) → text ≡ said (codes "frame")
     → MeansNone (Says NamesNumber 0 text) status → MeansNone (MeanConvert said) status
 no_frame said text status is (inl memory) = inl memory
 no_frame said text status is (inr h) =
-    inr (h.0, λ o m. h.1 o.frame (subst (λ t. Says NamesNumber 0 t o.frame) (sym is) m.2))
+    inr (h.0, λ o m. h.1 m.2 (subst (λ t. Says NamesNumber 0 t m.2) (sym is) m.5))
 
 -- ---- numbers
 

@@ -2,6 +2,7 @@
 use Rattle.std.proofs.Common.{◌≡◌, ◌≤◌, ◌⊎◌, None, Some, ℕ, List, ◌∷◌, [], ◌++◌, length, inl, inr, refl, sym, ◌∙◌, ap, arith, subst}
 use Rattle.std.specs.declared.option.Option.{Option}
 use Rattle.std.proofs.lemmas.Bool.{cases_lt}
+use Rattle.std.proofs.lemmas.Option.{same_Some}
 use Rattle.fold_base.specs.declared.outside.TheConstants.{MOST_BYTES}
 use Rattle.cp_lines.specs.CpText.{CpText}
 use Rattle.cp_lines.specs.Print as cp_form
@@ -14,16 +15,20 @@ use Rattle.fold_frames.specs.Answers.{AreInherited, HasNone, IsEffective}
 use Rattle.fold_frames.specs.Counts.{counts_of, misfit_in_effect}
 use Rattle.fold_frames.specs.Effects.{FrameInEffect}
 use Rattle.fold_frames.specs.declared.fault.FrameFault.{FrameFault}
+use Rattle.frame_lines.specs.Lines.{HasLines, HasNoLines, first_missing, first_steep, lines_of}
+use Rattle.frame_lines.specs.declared.fault.LinesFault.{LinesFault}
+use Rattle.frame_lines.specs.declared.fault.LinesFault.TheVariants as faulty
+use Rattle.cp_lines.specs.declared.line.CpLine.{CpLine}
 use Rattle.fold_keys.specs.Shape.{misfit_of_file}
 use Rattle.fold_keys.specs.Trees.{tree_of_file}
 use Rattle.fold_keys.specs.Writable.{IsWritable}
 use Rattle.fold_keys.specs.declared.value.Entry.{Entry}
 use Rattle.fold_keys.specs.declared.value.FoldFile.{FoldFile}
-use Rattle.fold_keys.specs.declared.value.Frame.{Frame}
+use Rattle.fold_keys.specs.declared.value.Frame.{Frame as KeysFrame}
 use Rattle.fold_keys.specs.declared.fault.ShapeFault.{ShapeFault}
-use Rattle.fold_program.specs.Status.{IsFailure, of_frame}
+use Rattle.fold_program.specs.Status.{IsFailure, of_frame, of_lines}
 use Rattle.fold_program.specs.Words.{TakeNothing}
-use Rattle.fold_program.specs.Outcome.{HaveFault, Spell, AreUnread, AreRead, HasMisfit, IsFileTree, IsReadFrom, IsSoundTree, HasNoFrame, HasUnevenLists, HasCounts, with_frame, Makes, format_of, IsOutcome, AreInput, AreLeft, KeepsToOutcome, HasOutcome, HaveOutcome, HaveAtMostOneOutcome}
+use Rattle.fold_program.specs.Outcome.{HaveFault, Spell, AreUnread, AreRead, HasMisfit, IsFileTree, IsReadFrom, IsSoundTree, HasNoFrame, HasUnevenLists, HasCounts, LacksLines, WritesFrame, with_frame, Makes, format_of, IsOutcome, AreInput, AreLeft, KeepsToOutcome, HasOutcome, HaveOutcome, HaveAtMostOneOutcome}
 use Rattle.fold_program.specs.declared.input.Input.{Input}
 use Rattle.fold_program.specs.declared.input.Input.TheVariants as input
 use Rattle.fold_program.specs.declared.status.Status.{Status}
@@ -33,6 +38,7 @@ use Rattle.fold_program.specs.declared.status.TextFault.TheVariants as faults
 use Rattle.fold_program.specs.declared.status.Limit.TheVariants.{TooLong}
 use Rattle.fold_program.specs.declared.words.Command.{Command}
 use Rattle.fold_program.specs.declared.words.Command.TheVariants.{Show, Convert}
+use Rattle.fold_program.specs.declared.words.ConvertOptions.TheVariants.{Frame, Lines}
 use Rattle.fold_program.specs.declared.words.Format.{Format}
 use Rattle.fold_program.specs.declared.words.Format.TheVariants.{Fold, Cp}
 use Rattle.fold_program.proofs.Chain.{Comes, Goes, IsOne, IsStep, one_answer, one_then, some_then}
@@ -127,15 +133,18 @@ pub record HaveOneFile : Type 0 where
       → f ≡ g
   pub sound : (bytes : List ℕ) (tree : Json) → length bytes ≤ MOST_BYTES → Spells bytes tree
       → IsSoundTree tree
-  pub some_frame : (frames : List Frame) (k : ℕ)
+  pub some_frame : (frames : List KeysFrame) (k : ℕ)
       → ((entries : List Entry) × AreInherited frames k entries)
       ⊎ ((fault : FrameFault) × HasNone frames k fault)
-  pub one_frame : (frames : List Frame) (k : ℕ) (es fs : List Entry) → AreInherited frames k es
+  pub one_frame : (frames : List KeysFrame) (k : ℕ) (es fs : List Entry) → AreInherited frames k es
       → AreInherited frames k fs → es ≡ fs
-  pub one_cause : (frames : List Frame) (k : ℕ) (e f : FrameFault) → HasNone frames k e
+  pub one_cause : (frames : List KeysFrame) (k : ℕ) (e f : FrameFault) → HasNone frames k e
       → HasNone frames k f → e ≡ f
-  pub apart : (frames : List Frame) (k : ℕ) (es : List Entry) (fault : FrameFault)
+  pub apart : (frames : List KeysFrame) (k : ℕ) (es : List Entry) (fault : FrameFault)
       → AreInherited frames k es → HasNone frames k fault → ⊥
+
+no_some : {X : Type 0} (x : X) (o : Option X) → o ≡ Some x → o ≡ None → ⊥
+no_some x o a b = let e : Some x ≡ None = sym a ∙ b in cc
 
 module _ (have : HaveOneFile) where
   file_step : (tree : Json) → IsStep (HasMisfit tree) (IsReadFrom tree)
@@ -186,27 +195,81 @@ module _ (have : HaveOneFile) where
       go None none = inr (counts_of frame.entries, (refl, none))
       go (Some fault) some = inl (Shape (Key fault), (fault, some, refl))
 
+  -- ---- lines
+
+  one_cause : (entries : List Entry) (f g : LinesFault) → HasNoLines entries f
+      → HasNoLines entries g → f ≡ g
+  one_cause entries (faulty.Missing k) (faulty.Missing l) p q =
+      ap faulty.Missing (same_Some k l (sym p ∙ q))
+  one_cause entries (faulty.Missing k) (faulty.NotFlat v) p q =
+      absurd (no_some k (first_missing entries) p q.0)
+  one_cause entries (faulty.NotFlat v) (faulty.Missing k) p q =
+      absurd (no_some k (first_missing entries) q p.0)
+  one_cause entries (faulty.NotFlat v) (faulty.NotFlat w) p q =
+      ap faulty.NotFlat (same_Some v w (sym p.1 ∙ q.1))
+  one_cause entries (faulty.Memory e) g p q = absurd p
+  one_cause entries (faulty.Missing k) (faulty.Memory e) p q = absurd q
+  one_cause entries (faulty.NotFlat v) (faulty.Memory e) p q = absurd q
+
+  no_lines : (entries : List Entry) (f : LinesFault) (lines : List CpLine) → HasNoLines entries f
+      → HasLines entries lines → ⊥
+  no_lines entries (faulty.Missing k) lines p q = no_some k (first_missing entries) p q.0
+  no_lines entries (faulty.NotFlat v) lines p q = no_some v (first_steep entries) p.1 q.1
+  no_lines entries (faulty.Memory e) lines p q = p
+
+  lines_step : (frame : FrameInEffect) → IsStep (LacksLines frame) (HasLines frame.entries)
+  lines_step frame = record {
+    one_stop = λ s t p q. p.2 ∙ ap of_lines (one_cause frame.entries p.0 q.0 p.1 q.1) ∙ sym q.2;
+    one_value = λ x y p q. p.2 ∙ sym q.2;
+    apart = λ s x p q. no_lines frame.entries p.0 x p.1 q;
+  }
+
+  lines_go : (frame : FrameInEffect) → Goes (LacksLines frame) (HasLines frame.entries)
+  lines_go frame = at (first_missing frame.entries) refl (first_steep frame.entries) refl
+    where
+      at : (m : Option (List ℕ)) → first_missing frame.entries ≡ m → (v : Option ℕ)
+          → first_steep frame.entries ≡ v → Goes (LacksLines frame) (HasLines frame.entries)
+      at (Some key) e v h = inl (of_lines (faulty.Missing key), (faulty.Missing key, e, refl))
+      at None e (Some v) h = inl (of_lines (faulty.NotFlat v), (faulty.NotFlat v, (e, h), refl))
+      at None e None h = inr (lines_of frame.entries, (e, h, refl))
+
+  one_written : (to : Format) (file : FoldFile) (frame : FrameInEffect)
+      → IsOne (WritesFrame to file frame)
+  one_written Fold file frame = one_answer _
+  one_written Cp file frame = one_then _ _ _ (lines_step frame) (λ lines h. one_answer _)
+
+  some_written : (to : Format) (file : FoldFile) (frame : FrameInEffect)
+      → Comes (WritesFrame to file frame)
+  some_written Fold file frame =
+      (Done, json_form.printed_form (tree_of_file (with_frame file frame)) ++ 10 ∷ [], (refl, refl))
+  some_written Cp file frame =
+      some_then _ _ _ (lines_go frame) (λ lines h. (Done, cp_form.printed_form lines, (refl, refl)))
+
   -- ---- the commands
 
   one_made : (command : Command) (spelled : Input) → IsOne (Makes command spelled)
   one_made (Show options) (input.Fold tree) = one_then _ _ _ (keys_step tree) (λ of_file h. one_answer _)
   one_made (Show options) (input.Cp lines) = one_answer _
-  one_made (Convert options) (input.Fold tree) =
+  one_made (Convert (Frame number to)) (input.Fold tree) =
       one_then _ _ _ (file_step tree) (λ file h.
-      one_then _ _ _ (frame_step file options.frame) (λ frame h.
-      one_then _ _ _ (counts_step frame) (λ counts h. one_answer _)))
-  one_made (Convert options) (input.Cp lines) = λ s s' t t' a b. absurd a
+      one_then _ _ _ (frame_step file number) (λ frame h.
+      one_then _ _ _ (counts_step frame) (λ counts h. one_written to file frame)))
+  one_made (Convert (Frame number to)) (input.Cp lines) = λ s s' t t' a b. absurd a
+  one_made (Convert Lines) (input.Fold tree) = λ s s' t t' a b. absurd a
+  one_made (Convert Lines) (input.Cp lines) = one_answer _
 
   some_made : (command : Command) (bytes : List ℕ) (spelled : Input)
       → AreRead (format_of command) bytes spelled → Comes (Makes command spelled)
   some_made (Show options) bytes (input.Fold tree) read = some_then _ _ _ (keys_go tree) (λ of_file h. (Done, json_form.printed_form of_file ++ 10 ∷ [], (refl, refl)))
   some_made (Show options) bytes (input.Cp lines) read = (Done, cp_form.printed_form lines, (refl, refl))
-  some_made (Convert options) bytes (input.Fold tree) read =
+  some_made (Convert (Frame number to)) bytes (input.Fold tree) read =
       some_then _ _ _ (file_goes tree (have.sound bytes tree read.0 read.1)) (λ file h.
-      some_then _ _ _ (frame_goes file options.frame) (λ frame h.
-      some_then _ _ _ (counts_go frame) (λ counts h.
-      (Done, json_form.printed_form (tree_of_file (with_frame file frame)) ++ 10 ∷ [], (refl, refl)))))
-  some_made (Convert options) bytes (input.Cp lines) read = absurd read.1
+      some_then _ _ _ (frame_goes file number) (λ frame h.
+      some_then _ _ _ (counts_go frame) (λ counts h. some_written to file frame)))
+  some_made (Convert (Frame number to)) bytes (input.Cp lines) read = absurd read.1
+  some_made (Convert Lines) bytes (input.Fold tree) read = absurd read.1
+  some_made (Convert Lines) bytes (input.Cp lines) read =
+      (Done, cp_form.printed_form lines, (refl, refl))
 
 -- ---- words and bytes
 

@@ -8,12 +8,14 @@ use Rattle.cp_lines.specs.FaultText as cp
 use Rattle.json_read.specs.FaultText as json
 use Rattle.fold_keys.specs.FaultText as keys
 use Rattle.fold_program.specs.declared.status.Status.{Status}
-use Rattle.fold_program.specs.declared.status.Status.TheVariants.{Done, Text, Shape, Words}
+use Rattle.fold_program.specs.declared.status.Status.TheVariants.{Done, Text, Shape, Sheet, Words}
 use Rattle.fold_program.specs.declared.status.Status.TheVariants.{Read, Write, Limit, Memory}
 use Rattle.fold_program.specs.declared.status.TextFault.{TextFault}
 use Rattle.fold_program.specs.declared.status.TextFault.TheVariants.{Json, Cp}
 use Rattle.fold_program.specs.declared.status.ShapeCause.{ShapeCause}
-use Rattle.fold_program.specs.declared.status.ShapeCause.TheVariants.{Key, NoFrame, ParentRange, ParentLoop}
+use Rattle.fold_program.specs.declared.status.ShapeCause.TheVariants.{Key, NoFrame, ParentRange, ParentLoop, NotFlat}
+use Rattle.fold_program.specs.declared.status.SheetCause.{SheetCause}
+use Rattle.fold_program.specs.declared.status.SheetCause.TheVariants.{Missing}
 use Rattle.fold_program.specs.declared.status.WordsCause.{WordsCause}
 use Rattle.fold_program.specs.declared.status.WordsCause.TheVariants.{Refused, Value}
 use Rattle.fold_program.specs.declared.status.Limit.{Limit as AnyLimit}
@@ -30,6 +32,11 @@ shape_message (Key fault) = keys.fault_text fault
 shape_message (NoFrame frame) = codes "no frame " ++ decimal frame
 shape_message (ParentRange frame) = codes "parent range " ++ decimal frame
 shape_message (ParentLoop frame) = codes "parent loop " ++ decimal frame
+shape_message (NotFlat vertex) = codes "not flat " ++ decimal vertex
+
+-- what is said of a frame that is no sheet
+abbrev pub sheet_message : SheetCause → List ℕ
+sheet_message (Missing key) = codes "missing " ++ key
 
 -- what is said of words that are refused
 abbrev pub words_message : WordsCause → List ℕ
@@ -45,6 +52,7 @@ abbrev pub message : Status → List ℕ
 message Done = codes "done"
 message (Text fault) = text_message fault
 message (Shape cause) = shape_message cause
+message (Sheet cause) = sheet_message cause
 message (Words cause) = words_message cause
 message Read = codes "read failed"
 message Write = codes "write failed"

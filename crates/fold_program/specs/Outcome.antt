@@ -23,6 +23,8 @@ use Rattle.fold_frames.specs.Effects.{FrameInEffect}
 use Rattle.fold_frames.specs.Inherits.{entries_at}
 use Rattle.fold_frames.specs.declared.counts.Counts.{Counts}
 use Rattle.fold_frames.specs.declared.fault.FrameFault.{FrameFault}
+use Rattle.frame_lines.specs.Lines.{HasLines, HasNoLines}
+use Rattle.frame_lines.specs.declared.fault.LinesFault.{LinesFault}
 use Rattle.fold_keys.specs.Shape.{misfit_of_file}
 use Rattle.fold_keys.specs.Short.{HasShortLists, HasShortSpec}
 use Rattle.fold_keys.specs.Trees.{tree_of_file}
@@ -30,7 +32,7 @@ use Rattle.fold_keys.specs.Writable.{IsWritable, file_of}
 use Rattle.fold_keys.specs.declared.fault.ShapeFault.{ShapeFault}
 use Rattle.fold_keys.specs.declared.value.Entry.{Entry}
 use Rattle.fold_keys.specs.declared.value.FoldFile.{FoldFile}
-use Rattle.fold_program.specs.Status.{IsAnswer, IsFailure, of_frame}
+use Rattle.fold_program.specs.Status.{IsAnswer, IsFailure, of_frame, of_lines}
 use Rattle.fold_program.specs.Steps.{Outcome, Then, Answers, Never}
 use Rattle.fold_program.specs.Words.{AreWordsOf, AreRefused, TakeNothing}
 use Rattle.fold_program.specs.declared.input.Input.{Input}
@@ -44,6 +46,7 @@ use Rattle.fold_program.specs.declared.status.Limit.TheVariants.{TooLong}
 use Rattle.fold_program.specs.declared.words.Command.{Command}
 use Rattle.fold_program.specs.declared.words.Command.TheVariants.{Show, Convert}
 use Rattle.fold_program.specs.declared.words.ConvertOptions.{ConvertOptions}
+use Rattle.fold_program.specs.declared.words.ConvertOptions.TheVariants.{Frame, Lines}
 use Rattle.fold_program.specs.declared.words.Format.{Format}
 use Rattle.fold_program.specs.declared.words.Format.TheVariants.{Fold, Cp}
 
@@ -154,31 +157,49 @@ of_file file = filter (λ e. is_of_file e.key) (entries_at file.frames 0)
 abbrev pub with_frame : FoldFile → FrameInEffect → FoldFile
 with_frame file frame = file_of (of_file file ++ frame.entries)
 
--- an effective frame is refused where its lists don't agree, or else written in place of all frames
-abbrev pub WritesFrame : FoldFile → FrameInEffect → Outcome
-WritesFrame file frame =
-    Then (HasUnevenLists frame) (HasCounts frame)
-    (λ counts. Answers (json_form.printed_form (tree_of_file (with_frame file frame)) ++ 10 ∷ []))
+-- the frame has no lines, and the status names why
+abbrev pub LacksLines : FrameInEffect → Status → Type 0
+LacksLines frame status =
+    (fault : LinesFault) × HasNoLines frame.entries fault × (status ≡ of_lines fault)
+
+-- the lines of the frame's edges, if it has some
+abbrev pub WritesLines : FrameInEffect → Outcome
+WritesLines frame =
+    Then (LacksLines frame) (HasLines frame.entries) (λ lines. Answers (cp_form.printed_form lines))
+
+-- the frame in place of all frames of its file, or its lines
+abbrev pub WritesFrame : Format → FoldFile → FrameInEffect → Outcome
+WritesFrame Fold file frame =
+    Answers (json_form.printed_form (tree_of_file (with_frame file frame)) ++ 10 ∷ [])
+WritesFrame Cp file frame = WritesLines frame
+
+-- an effective frame is refused where its lists don't agree, or else written
+abbrev pub ConvertsFrame : Format → FoldFile → FrameInEffect → Outcome
+ConvertsFrame to file frame =
+    Then (HasUnevenLists frame) (HasCounts frame) (λ counts. WritesFrame to file frame)
 
 -- the frame with this number, if there is one
-abbrev pub ConvertsFile : ℕ → FoldFile → Outcome
-ConvertsFile number file =
-    Then (HasNoFrame file number) (IsEffective file.frames number) (WritesFrame file)
+abbrev pub ConvertsFile : Format → ℕ → FoldFile → Outcome
+ConvertsFile to number file =
+    Then (HasNoFrame file number) (IsEffective file.frames number) (ConvertsFrame to file)
 
 -- a tree is refused at its first misfit, or else its file is converted
-abbrev pub ConvertsTree : ℕ → Json → Outcome
-ConvertsTree number tree = Then (HasMisfit tree) (IsReadFrom tree) (ConvertsFile number)
+abbrev pub ConvertsTree : Format → ℕ → Json → Outcome
+ConvertsTree to number tree = Then (HasMisfit tree) (IsReadFrom tree) (ConvertsFile to number)
 
 abbrev pub Converts : ConvertOptions → Input → Outcome
-Converts options (input.Fold tree) = ConvertsTree options.frame tree
-Converts options (input.Cp lines) = Never
+Converts (Frame frame to) (input.Fold tree) = ConvertsTree to frame tree
+Converts (Frame frame to) (input.Cp lines) = Never
+Converts Lines (input.Fold tree) = Never
+Converts Lines (input.Cp lines) = Answers (cp_form.printed_form lines)
 
 -- ---- all commands
 
 -- the format that a command reads
 abbrev pub format_of : Command → Format
 format_of (Show options) = options.from
-format_of (Convert options) = Fold
+format_of (Convert (Frame frame to)) = Fold
+format_of (Convert Lines) = Cp
 
 -- what a command makes of what it read
 abbrev pub Makes : Command → Input → Outcome

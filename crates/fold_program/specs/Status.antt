@@ -11,13 +11,16 @@ use Rattle.json_read.specs.declared.fault.JsonReadFault.{JsonReadFault}
 use Rattle.json_read.specs.declared.fault.JsonReadFault.TheVariants as json
 use Rattle.fold_frames.specs.declared.fault.FrameFault.{FrameFault}
 use Rattle.fold_frames.specs.declared.fault.FrameFault.TheVariants as frames
+use Rattle.frame_lines.specs.declared.fault.LinesFault.{LinesFault}
+use Rattle.frame_lines.specs.declared.fault.LinesFault.TheVariants as lines
 use Rattle.fold_keys.specs.declared.fault.FoldFault.{FoldFault}
 use Rattle.fold_keys.specs.declared.fault.FoldFault.TheVariants as keys
 use Rattle.fold_program.specs.declared.status.Status.{Status}
-use Rattle.fold_program.specs.declared.status.Status.TheVariants.{Done, Text, Shape, Words}
+use Rattle.fold_program.specs.declared.status.Status.TheVariants.{Done, Text, Shape, Sheet, Words}
 use Rattle.fold_program.specs.declared.status.Status.TheVariants.{Read, Write, Limit, Memory}
 use Rattle.fold_program.specs.declared.status.TextFault.TheVariants.{Json, Cp}
-use Rattle.fold_program.specs.declared.status.ShapeCause.TheVariants.{Key, NoFrame, ParentRange, ParentLoop}
+use Rattle.fold_program.specs.declared.status.ShapeCause.TheVariants.{Key, NoFrame, ParentRange, ParentLoop, NotFlat}
+use Rattle.fold_program.specs.declared.status.SheetCause.TheVariants.{Missing}
 use Rattle.fold_program.specs.declared.status.WordsCause.TheVariants.{Refused}
 use Rattle.fold_program.specs.declared.status.Limit.TheVariants.{TooLong}
 
@@ -26,6 +29,7 @@ abbrev pub code_of : Status → ℕ
 code_of Done = 0
 code_of (Text fault) = 2
 code_of (Shape cause) = 3
+code_of (Sheet cause) = 4
 code_of (Words cause) = 6
 code_of Read = 7
 code_of Write = 8
@@ -76,6 +80,12 @@ of_frame (frames.NoFrame frame) = Shape (NoFrame frame)
 of_frame (frames.ParentRange frame) = Shape (ParentRange frame)
 of_frame (frames.ParentLoop frame) = Shape (ParentLoop frame)
 of_frame (frames.Memory error) = Memory
+
+-- the status where a frame has no lines
+abbrev pub of_lines : LinesFault → Status
+of_lines (lines.Missing key) = Sheet (Missing key)
+of_lines (lines.NotFlat vertex) = Shape (NotFlat vertex)
+of_lines (lines.Memory error) = Memory
 
 -- the status where `clap` doesn't take the words: want of memory is no fault of theirs
 abbrev pub IsOfWords : Error → Status → Type 0

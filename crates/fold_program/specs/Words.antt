@@ -13,6 +13,7 @@ use Rattle.fold_program.specs.declared.words.Entry.{Entry}
 use Rattle.fold_program.specs.declared.words.Command.{Command}
 use Rattle.fold_program.specs.declared.words.Command.TheVariants.{Show, Convert}
 use Rattle.fold_program.specs.declared.words.ConvertOptions.{ConvertOptions}
+use Rattle.fold_program.specs.declared.words.ConvertOptions.TheVariants.{Frame, Lines}
 use Rattle.fold_program.specs.declared.words.ShowOptions.{ShowOptions}
 use Rattle.fold_program.specs.declared.words.Format.{Format}
 use Rattle.fold_program.specs.declared.words.Format.TheVariants.{Fold, Cp}
@@ -62,12 +63,22 @@ Says names default (Some text) value = names text value
 abbrev pub MeanShow : (Text → Option Text) → ShowOptions → Type 0
 MeanShow said options = Says NamesFormat Fold (said (codes "from")) options.from
 
--- a file of one format is made of another of that format, and of FOLD alone
+-- what is converted between these formats; lines aren't converted to a FOLD file
+abbrev pub IsConversion : Format → Format → ℕ → ConvertOptions → Type 0
+IsConversion from to number (Frame frame other) = (from ≡ Fold) × (to ≡ other) × (number ≡ frame)
+IsConversion from to number Lines = (from ≡ Cp) × (to ≡ Cp)
+
+abbrev pub IsUnbuilt : Format → Format → Type 0
+IsUnbuilt from to = (from ≡ Cp) × (to ≡ Fold)
+
+-- what is said of each option means a conversion
 abbrev pub MeanConvert : (Text → Option Text) → ConvertOptions → Type 0
 MeanConvert said options =
-    Says NamesFormat Fold (said (codes "from")) Fold
-    × Says NamesFormat Fold (said (codes "to")) Fold
-    × Says NamesNumber 0 (said (codes "frame")) options.frame
+    (from to : Format) × (frame : ℕ)
+    × Says NamesFormat Fold (said (codes "from")) from
+    × Says NamesFormat Fold (said (codes "to")) to
+    × Says NamesNumber 0 (said (codes "frame")) frame
+    × IsConversion from to frame options
 
 -- a command's name, and what is said of each option, mean this command
 abbrev pub Mean : Text → (Text → Option Text) → Command → Type 0

@@ -1,61 +1,105 @@
 // What `convert` does.
-ghost use Rattle.std.specs.Prelude.{◌≡◌, [], ◌∷◌, ◌++◌, filter, IfOk, OnOk};
+ghost use Rattle.std.specs.Prelude.{◌≡◌, ◌≤◌, None, [], ◌∷◌, ◌++◌, filter, All, IfOk, OnOk};
 ghost use Rattle.fold_keys.specs.Writable.{IsWritable, file_of};
 ghost use Rattle.fold_frames.specs.Answers.{IsEffective};
 ghost use Rattle.fold_frames.specs.Inherits.{entries_at};
+ghost use Rattle.fold_frames.specs.Counts.{misfit_in_effect};
+ghost use Rattle.frame_lines.specs.Lines.{HasLines};
+ghost use Rattle.fold_program.specs.declared.words.Command.TheVariants.{Convert};
 ghost use Rattle.fold_program.specs.declared.words.Format.TheVariants.{Fold};
 ghost use Rattle.fold_program.specs.Steps.{Follows, Steps};
-ghost use Rattle.fold_program.specs.Outcome.{Converts, ConvertsFile, ConvertsTree, WritesFrame, HasCounts, HasFormat, HasNoFrame, HasUnevenLists, IsSound, IsSoundTree, is_of_file, of_file, with_frame};
+ghost use Rattle.fold_program.specs.Outcome.{Converts, ConvertsFile, ConvertsFrame, ConvertsTree, LacksLines, WritesFrame, WritesLines, format_of, HasCounts, HasFormat, HasNoFrame, HasUnevenLists, IsSound, IsSoundTree, is_of_file, of_file, with_frame};
 
 use crate::act::read_file;
 use crate::input::Input;
 use crate::status::Status;
-use crate::words::ConvertOptions;
+use crate::words::{ConvertOptions, Format};
+use cp_lines::{CpLine, print_cp};
 use fold_base::{List, Text};
 use fold_frames::{Counts, Effective, effective};
 use fold_keys::{Entry, FoldFile, Frame, copy_value, to_json, writable_entries};
+use frame_lines::frame_lines;
 use json_tree::{Json, print};
 use std::alloc::{AllocError, Global};
 
 /// The drawing in another format, or in the same.
 pub fn convert(alloc: Global, options: &ConvertOptions, input: Input) -> Result<Text, Status>
-    requires format { HasFormat Fold input }
+    requires format { HasFormat (format_of (Convert options.now)) input }
     requires sound { IsSound input }
     ensures { Follows (Converts options.now input) result }
 {
-    match input {
-        Input::Fold(tree) => convert_tree(alloc, options.frame, tree),
-        Input::Cp(_) => unreachable!(),
+    match options {
+        ConvertOptions::Frame { frame, to } => match input {
+            Input::Fold(tree) => convert_tree(alloc, *to, *frame, tree),
+            Input::Cp(_) => unreachable!(),
+        },
+        ConvertOptions::Lines => match input {
+            Input::Fold(_) => unreachable!(),
+            Input::Cp(lines) => Ok(print_cp(alloc, &lines)?),
+        },
     }
 }
 
 /// FOLD's keys, and then the frame of this number.
-fn convert_tree(alloc: Global, number: u32, tree: Json) -> Result<Text, Status>
+fn convert_tree(alloc: Global, to: Format, number: u32, tree: Json) -> Result<Text, Status>
     requires { IsSoundTree tree }
-    ensures { Follows (ConvertsTree number tree) result }
+    ensures { Follows (ConvertsTree to number tree) result }
 {
     let file = read_file(alloc, tree)?;
-    convert_file(alloc, number, &file)
+    convert_file(alloc, to, number, &file)
 }
 
-fn convert_file(alloc: Global, number: u32, file: &FoldFile) -> Result<Text, Status>
+fn convert_file(alloc: Global, to: Format, number: u32, file: &FoldFile) -> Result<Text, Status>
     requires { IsWritable file.now }
-    ensures { Follows (ConvertsFile number file.now) result }
+    ensures { Follows (ConvertsFile to number file.now) result }
 {
     let frame = effective_frame(alloc, file, number)?;
-    write_frame(alloc, file, &frame)
+    convert_frame(alloc, to, file, &frame)
+}
+
+fn convert_frame(
+    alloc: Global,
+    to: Format,
+    file: &FoldFile,
+    frame: &Effective,
+) -> Result<Text, Status>
+    requires { IsWritable file.now }
+    ensures { Follows (ConvertsFrame to file.now frame.now) result }
+{
+    counts_of(alloc, frame)?;
+    match to {
+        Format::Fold => write_frame(alloc, file, frame),
+        Format::Cp => write_lines(alloc, frame),
+    }
 }
 
 /// The file with this frame in place of all its frames, in a line.
 fn write_frame(alloc: Global, file: &FoldFile, frame: &Effective) -> Result<Text, Status>
     requires { IsWritable file.now }
-    ensures { Follows (WritesFrame file.now frame.now) result }
+    ensures { Follows (WritesFrame Fold file.now frame.now) result }
 {
-    counts_of(alloc, frame)?;
     let made = with_frame(alloc, file, frame)?;
     let mut text = print(alloc, &to_json(alloc, &made)?)?;
     text.push('\n')?;
     Ok(text)
+}
+
+/// A line for each edge of the frame.
+fn write_lines(alloc: Global, frame: &Effective) -> Result<Text, Status>
+    requires { misfit_in_effect frame.now ≡ None }
+    ensures { Follows (WritesLines frame.now) result }
+{
+    let lines = lines_of(alloc, frame)?;
+    Ok(print_cp(alloc, &lines)?)
+}
+
+/// The lines of the frame's edges, or why it has none.
+fn lines_of(alloc: Global, frame: &Effective) -> Result<List<CpLine>, Status>
+    requires { misfit_in_effect frame.now ≡ None }
+    ensures lines { Steps (LacksLines frame.now) (HasLines frame.now.entries) result }
+    ensures kinds { IfOk result (All (λ line. line.kind ≤ 4)) }
+{
+    Ok(frame_lines(alloc, frame)?)
 }
 
 /// The frame of this number with all that it inherits, or why it has none.

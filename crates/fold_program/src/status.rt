@@ -3,9 +3,10 @@ ghost use Rattle.std.specs.Prelude.{◌≡◌};
 
 use clap::error::ErrorKind;
 use cp_lines::{CpFault, CpReadFault};
-use fold_base::ReadFault;
+use fold_base::{ReadFault, Text};
 use fold_frames::FrameFault;
 use fold_keys::{FoldFault, ShapeFault};
+use frame_lines::LinesFault;
 use json_read::{JsonFault, JsonReadFault};
 use std::alloc::AllocError;
 use std::fmt;
@@ -16,6 +17,7 @@ pub enum Status {
     Done,
     Text(TextFault),
     Shape(ShapeCause),
+    Sheet(SheetCause),
     Words(WordsCause),
     /// The input can't be read to its end.
     Read,
@@ -44,6 +46,15 @@ pub enum ShapeCause {
     ParentRange { frame: u32 },
     /// Of the frames that are met when parents are followed, this is the first that is met again.
     ParentLoop { frame: u32 },
+    /// The third coordinate of this vertex isn't 0.
+    NotFlat { vertex: u32 },
+}
+
+/// Why a frame is no sheet of the kind that the command asks for.
+#[derive(Debug, PartialEq, Eq, Drop)]
+pub enum SheetCause {
+    /// The frame lacks this key.
+    Missing { key: Text },
 }
 
 #[derive(Clone, Copy, Debug, PartialEq, Eq)]
@@ -71,6 +82,7 @@ impl Status {
             Status::Done => 0,
             Status::Text(_) => 2,
             Status::Shape(_) => 3,
+            Status::Sheet(_) => 4,
             Status::Words(_) => 6,
             Status::Read => 7,
             Status::Write => 8,
@@ -158,6 +170,20 @@ impl From<FrameFault> for Status {
     }
 }
 
+impl From<LinesFault> for Status {
+    ghost use Rattle.fold_program.specs.Status.{of_lines};
+
+    ghost from_gives = { λ fault status. status ≡ of_lines fault };
+
+    fn from(fault: LinesFault) -> Status {
+        match fault {
+            LinesFault::Missing { key } => Status::Sheet(SheetCause::Missing { key }),
+            LinesFault::NotFlat { vertex } => Status::Shape(ShapeCause::NotFlat { vertex }),
+            LinesFault::Memory(_) => Status::Memory,
+        }
+    }
+}
+
 impl From<clap::Error> for Status {
     ghost use Rattle.fold_program.specs.Status.{IsOfWords};
 
@@ -193,6 +219,7 @@ impl fmt::Display for Status {
             Status::Done => f.write_str("done"),
             Status::Text(fault) => write!(f, "{fault}"),
             Status::Shape(cause) => write!(f, "{cause}"),
+            Status::Sheet(cause) => write!(f, "{cause}"),
             Status::Words(cause) => write!(f, "{cause}"),
             Status::Read => f.write_str("read failed"),
             Status::Write => f.write_str("write failed"),
@@ -230,11 +257,27 @@ impl fmt::Display for ShapeCause {
             ShapeCause::NoFrame { frame } => write!(f, "no frame {frame}"),
             ShapeCause::ParentRange { frame } => write!(f, "parent range {frame}"),
             ShapeCause::ParentLoop { frame } => write!(f, "parent loop {frame}"),
+            ShapeCause::NotFlat { vertex } => write!(f, "not flat {vertex}"),
         }
     }
 }
 
 impl std::error::Error for ShapeCause {}
+
+impl fmt::Display for SheetCause {
+    ghost use Rattle.std.specs.Prelude.{Some};
+    ghost use Rattle.fold_program.specs.Notes.{sheet_message};
+
+    ghost output = { λ cause. Some (sheet_message cause) };
+
+    fn fmt<W: fmt::Write>(&self, f: &mut fmt::Formatter<W>) -> fmt::Result {
+        match self {
+            SheetCause::Missing { key } => write!(f, "missing {key}"),
+        }
+    }
+}
+
+impl std::error::Error for SheetCause {}
 
 impl fmt::Display for WordsCause {
     ghost use Rattle.std.specs.Prelude.{Some};

@@ -1,9 +1,9 @@
 // The words of the command line, read by the crate `clap`.
-ghost use Rattle.std.specs.Prelude.{◌≡◌, ◌≢◌, ◌⊎◌, [], IfOk, IfErr, OnOk, false, option_map};
+ghost use Rattle.std.specs.Prelude.{◌≡◌, ◌≢◌, ◌⊎◌, [], IfOk, IfErr, MatchOption, false, option_map};
 ghost use Rattle.clap.specs.Words.{app_of, found_of, rows_of, shape_of, subcommand_rows_of};
 ghost use Rattle.clap.specs.declared.builder.command.Command.TheViews.{out-Command};
 ghost use Rattle.fold_keys.specs.Elements.{id_in_text};
-ghost use Rattle.fold_program.specs.Words.{texts, app, faults, found, as_listed, subcommand_shape, said_in, Mean, MeanShow, MeanConvert, MeansNone, NamesFormat, NamesNumber, Says, AreWordsOf, AreRefused};
+ghost use Rattle.fold_program.specs.Words.{texts, app, faults, found, as_listed, subcommand_shape, said_in, IsConversion, IsUnbuilt, Mean, MeanShow, MeanConvert, MeansNone, NamesFormat, NamesNumber, Says, AreWordsOf, AreRefused};
 
 use crate::status::{Status, WordsCause};
 use clap::{Arg, ArgAction, ArgMatches};
@@ -15,7 +15,8 @@ use std::alloc::{AllocError, Global};
 pub enum Command {
     /// Prints the whole input in the printed form of its format.
     Show(ShowOptions),
-    /// Takes a frame out of a file, with all that it inherits.
+    /// Prints a drawing in the other or the same format: of a FOLD file one frame with all that it
+    /// inherits.
     Convert(ConvertOptions),
 }
 
@@ -25,9 +26,11 @@ pub struct ShowOptions {
 }
 
 #[derive(Clone, Copy, Debug, PartialEq, Eq)]
-pub struct ConvertOptions {
-    /// The number of the frame.
-    pub frame: u32,
+pub enum ConvertOptions {
+    /// A frame of a FOLD file, to either format.
+    Frame { frame: u32, to: Format },
+    /// CP text, to CP text.
+    Lines,
 }
 
 #[derive(Clone, Copy, Debug, PartialEq, Eq)]
@@ -47,7 +50,8 @@ impl Command {
     {
         match self {
             Command::Show(options) => options.from,
-            Command::Convert(_) => Format::Fold,
+            Command::Convert(ConvertOptions::Frame { .. }) => Format::Fold,
+            Command::Convert(ConvertOptions::Lines) => Format::Cp,
         }
     }
 }
@@ -146,22 +150,23 @@ fn convert_options(alloc: Global, options: &ArgMatches<'_>) -> Result<ConvertOpt
     ensures err { IfErr result
         (MeansNone (MeanConvert (said_in (rows_of (found_of options.now))))) }
 {
-    fold_alone(options.get_str("from"))?;
-    fold_alone(options.get_str("to"))?;
+    let from = format_of(options.get_str("from"))?;
+    let to = format_of(options.get_str("to"))?;
     let frame = frame_of(alloc, options.get_str("frame"))?;
-    Ok(ConvertOptions { frame })
+    match conversion(from, to, frame) {
+        Some(options) => Ok(options),
+        None => Err(Status::Words(WordsCause::Value)),
+    }
 }
 
-/// Nothing but FOLD is said.
-fn fold_alone(said: Option<&str>) -> Result<(), WordsCause>
-    ensures ok { OnOk result
-        (Says NamesFormat Format.Fold (option_map (λ text. text.now) said.entry) Format.Fold) }
-    ensures err { IfErr result (λ cause. (cause ≡ WordsCause.Value)
-        × ¬ Says NamesFormat Format.Fold (option_map (λ text. text.now) said.entry) Format.Fold) }
+/// The conversion between these formats, if there is one.
+fn conversion(from: Format, to: Format, frame: u32) -> Option<ConvertOptions>
+    ensures { MatchOption result (IsUnbuilt from to) (IsConversion from to frame) }
 {
-    match format_of(said)? {
-        Format::Fold => Ok(()),
-        Format::Cp => Err(WordsCause::Value),
+    match (from, to) {
+        (Format::Fold, to) => Some(ConvertOptions::Frame { frame, to }),
+        (Format::Cp, Format::Cp) => Some(ConvertOptions::Lines),
+        (Format::Cp, Format::Fold) => None,
     }
 }
 

@@ -1,25 +1,26 @@
-use Rattle.std.proofs.Common.{◌≡◌, ◌∙◌, codes, subst, option_map}
+use Rattle.std.proofs.Common.{◌≡◌, ◌∙◌, codes, subst, option_map, inr, refl}
 use Rattle.std.proofs.lemmas.Result.{err_from_is_err_and}
 use Rattle.clap.specs.Words.{rows_of, found_of}
 use Rattle.clap.proofs.WalkLemmas.{first_value-rows}
 use Rattle.fold_program.specs.Words.{Says, NamesFormat, NamesNumber, said_in}
 use Rattle.fold_program.specs.declared.words.Format.TheVariants.{Fold}
-use Rattle.fold_program.proofs.Meaning.{other_from, other_to, no_frame}
+use Rattle.fold_program.proofs.Decide.{unbuilt}
+use Rattle.fold_program.proofs.Meaning.{no_from, no_to, no_frame}
 use Rattle.fold_program.proofs.words.convert_options.Goals as goal
 
-pub returns-in_err-fold_alone-clause-err : goal.returns-in_err-fold_alone-clause-err
-returns-in_err-fold_alone-clause-err c =
+pub returns-in_err-from-clause-err : goal.returns-in_err-from-clause-err
+returns-in_err-from-clause-err c =
     let found = found_of c.args.options.now in
     let said : option_map (λ s. s.now) c.get_str.result ≡ said_in (rows_of found) (codes "from") = c.get_str.ensures ∙ first_value-rows found (codes "from") in
     let p = err_from_is_err_and c.from_residual.result c.from_residual.ensures.1 in
-    rw (p.1, p.2) (other_from (said_in (rows_of found)) _ c.in_err-fold_alone.field-0.0 said c.in_err-fold_alone.ensures.err.0 c.in_err-fold_alone.ensures.err.1)
+    rw (p.1, p.2) (no_from (said_in (rows_of found)) _ c.in_err-from.field-0.0 said c.in_err-from.ensures.err.0 c.in_err-from.ensures.err.1)
 
-pub returns-in_err-fold_alone-2-clause-err : goal.returns-in_err-fold_alone-2-clause-err
-returns-in_err-fold_alone-2-clause-err c =
+pub returns-in_err-to-clause-err : goal.returns-in_err-to-clause-err
+returns-in_err-to-clause-err c =
     let found = found_of c.args.options.now in
     let said : option_map (λ s. s.now) c.get_str-2.result ≡ said_in (rows_of found) (codes "to") = c.get_str-2.ensures ∙ first_value-rows found (codes "to") in
-    let p = err_from_is_err_and c.from_residual-in_err-fold_alone-2.result c.from_residual-in_err-fold_alone-2.ensures.1 in
-    rw (p.1, p.2) (other_to (said_in (rows_of found)) _ c.in_err-fold_alone-2.field-0.0 said c.in_err-fold_alone-2.ensures.err.0 c.in_err-fold_alone-2.ensures.err.1)
+    let p = err_from_is_err_and c.from_residual-in_err-to.result c.from_residual-in_err-to.ensures.1 in
+    rw (p.1, p.2) (no_to (said_in (rows_of found)) _ c.in_err-to.field-0.0 said c.in_err-to.ensures.err.0 c.in_err-to.ensures.err.1)
 
 pub returns-in_err-frame-clause-err : goal.returns-in_err-frame-clause-err
 returns-in_err-frame-clause-err c =
@@ -28,13 +29,26 @@ returns-in_err-frame-clause-err c =
     let p = err_from_is_err_and c.from_residual-in_err-frame.result c.from_residual-in_err-frame.ensures.1 in
     rw (p.1, p.2) (no_frame (said_in (rows_of found)) _ c.in_err-frame.field-0.0 said c.in_err-frame.ensures.err)
 
-pub returns-clause-ok : goal.returns-clause-ok
-returns-clause-ok c =
+pub returns-in-Some-clause-ok : goal.returns-in-Some-clause-ok
+returns-in-Some-clause-ok c =
     let found = found_of c.args.options.now in
     let from : option_map (λ s. s.now) c.get_str.result ≡ said_in (rows_of found) (codes "from") = c.get_str.ensures ∙ first_value-rows found (codes "from") in
     let to : option_map (λ s. s.now) c.get_str-2.result ≡ said_in (rows_of found) (codes "to") = c.get_str-2.ensures ∙ first_value-rows found (codes "to") in
     let frame : option_map (λ s. s.now) c.get_str-3.result ≡ said_in (rows_of found) (codes "frame") = c.get_str-3.ensures ∙ first_value-rows found (codes "frame") in (
-      subst (λ t. Says NamesFormat Fold t Fold) from c.in_ok-fold_alone.ensures.ok,
-      subst (λ t. Says NamesFormat Fold t Fold) to c.in_ok-fold_alone-2.ensures.ok,
+      c.in_ok-from.from,
+      c.in_ok-to.to,
+      c.in_ok-frame.frame,
+      subst (λ t. Says NamesFormat Fold t c.in_ok-from.from) from c.in_ok-from.ensures.ok,
+      subst (λ t. Says NamesFormat Fold t c.in_ok-to.to) to c.in_ok-to.ensures.ok,
       subst (λ t. Says NamesNumber 0 t c.in_ok-frame.frame) frame c.in_ok-frame.ensures.ok,
+      c.in-Some.ensures,
     )
+
+pub returns-in-None-clause-err : goal.returns-in-None-clause-err
+returns-in-None-clause-err c =
+    let found = found_of c.args.options.now in
+    let from : option_map (λ s. s.now) c.get_str.result ≡ said_in (rows_of found) (codes "from") = c.get_str.ensures ∙ first_value-rows found (codes "from") in
+    let to : option_map (λ s. s.now) c.get_str-2.result ≡ said_in (rows_of found) (codes "to") = c.get_str-2.ensures ∙ first_value-rows found (codes "to") in
+    inr (refl, unbuilt (said_in (rows_of found)) c.in_ok-from.from c.in_ok-to.to
+    (subst (λ t. Says NamesFormat Fold t c.in_ok-from.from) from c.in_ok-from.ensures.ok)
+    (subst (λ t. Says NamesFormat Fold t c.in_ok-to.to) to c.in_ok-to.ensures.ok) c.in-None.ensures)
