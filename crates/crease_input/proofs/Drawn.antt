@@ -1,5 +1,5 @@
 -- the entries of a drawing's file can be written
-use Rattle.std.proofs.Common.{◌≡◌, ◌≢◌, ℕ, zero, suc, ℤ, pos, negsuc, ◌<◌, ◌≤◌, ◌^◌, ◌≤ℤ◌, List, [], ◌∷◌, ◌++◌, map, length, refl, sym, ◌∙◌, ap, subst, Bool, true, false, Option, Some, None, arith}
+use Rattle.std.proofs.Common.{◌≡◌, ℕ, zero, suc, ℤ, pos, negsuc, ◌<◌, ◌≤◌, ◌^◌, ◌≤ℤ◌, List, [], ◌∷◌, ◌++◌, map, length, refl, sym, ◌∙◌, ap, subst, Bool, true, false, Option, Some, None, arith}
 use Rattle.std.specs.Prelude.{not, is_some, codes, ◌&&◌, ◌==◌, ◌||◌, if◌then◌else◌, nat_lt, option_map}
 use Rattle.std.specs.Fmt.{decimal, signed_decimal}
 use Rattle.std.specs.List.{AllByRecursion, AllZip, IsDistinct, list_all}
@@ -25,8 +25,8 @@ use Rattle.json_tree.specs.declared.tree.Json.TheViews as trees
 use Rattle.json_tree.proofs.Trees.{nesting-List, nesting-Number, nesting-Word, every-Number, every-Word, every-List}
 use Rattle.fold_keys.specs.Along.{or_else, first_along}
 use Rattle.fold_keys.specs.Spec.{is_above_spec}
-use Rattle.fold_keys.specs.Elements.{is_side, is_number, is_number_layer, is_word, is_word_layer, is_id, id_in_text, id_in_layer, misfit_of_inner, misfit_of_coords, misfit_of_pair, misfit_of_all, misfit_of_plain, misfit_of_letter, misfit_of_letter_layer, misfit_of_order, misfit_of_order_layer, misfit_of_side_layer}
-use Rattle.fold_keys.specs.Reading.{misfit_at, first_misfit}
+use Rattle.fold_keys.specs.Elements.{is_side, is_number, is_number_layer, is_word, is_word_layer, is_id, id_in_layer, misfit_of_inner, misfit_of_coords, misfit_of_pair, misfit_of_all, misfit_of_plain, misfit_of_letter, misfit_of_letter_layer, misfit_of_order, misfit_of_order_layer, misfit_of_side_layer}
+use Rattle.fold_keys.specs.Reading.{misfit_at}
 use Rattle.fold_keys.specs.Shape.{kind_by, misfit_of_value, of_list, of_spec_layer, whole}
 use Rattle.fold_keys.specs.Short.{HasShortList, HasShortLists, HasShortNumber}
 use Rattle.fold_keys.specs.Trees.{tree_of_value, tree_of_number, tree_of_word, tree_of_id, tree_of_pair, tree_of_all, tree_or_null, tree_of_letter, tree_of_order, tree_of_side}

@@ -1,6 +1,6 @@
 -- vertices and edges after so many lines
-use Rattle.std.proofs.Common.{◌≡◌, ℕ, suc, ◌+◌, ◌*◌, ◌<◌, ◌≤◌, List, [], ◌∷◌, ◌++◌, map, length, take, drop, get_or, refl, sym, ◌∙◌, ap, subst, Result, Ok, Err, arith}
-use Rattle.std.specs.List.{AllByRecursion, AllZip}
+use Rattle.std.proofs.Common.{◌≡◌, ℕ, suc, ◌+◌, ◌*◌, ◌<◌, ◌≤◌, List, [], ◌∷◌, ◌++◌, map, length, take, drop, get_or, sym, ◌∙◌, ap, subst, Result, Ok, Err, arith}
+use Rattle.std.specs.List.{AllZip}
 use Rattle.std.proofs.lemmas.List.{take_more, take_all, length-take-le, length-map, take-append-drop}
 use Rattle.std.proofs.Math.Seq.{drop-cons}
 use Rattle.std.proofs.lemmas.Slice.Zip.{AllZip-long}
@@ -8,9 +8,8 @@ use Rattle.algebra.specs.LowestTerms.{Parts}
 use Rattle.cp_lines.specs.declared.line.CpLine.{CpLine}
 use Rattle.number_rules.specs.declared.unread.Unread.{Unread}
 use Rattle.scaled_plane.specs.declared.drawing.Edge.{Edge}
-use Rattle.scaled_plane.specs.declared.drawing.Ends.{Ends}
 use Rattle.scaled_plane.specs.declared.point.Pair.{Pair}
-use Rattle.crease_input.specs.Lines.{IsCrease, AnswersLine, AnswersEnds, IsWithin, edge_in, ends_of}
+use Rattle.crease_input.specs.Lines.{IsCrease, AnswersLine, AnswersEnds, IsWithin, edge_in}
 use Rattle.crease_input.specs.declared.crease.Crease.{Crease}
 use Rattle.crease_input.specs.declared.fault.InputFault.{InputFault}
 use Rattle.crease_input.specs.declared.fault.InputFault.TheVariants as faults

@@ -3,3 +3,4 @@ pub mod Unread
 pub mod Gathering
 pub mod Texted
 pub mod Drawn
+pub mod Short

@@ -1,14 +1,14 @@
 -- what a rule gives has short parts
 use Prim.Native.Nat.{◌∣◌}
 use native.Mathlib.Nat.{dvd-mul_left}
-use Rattle.std.proofs.Common.{◌≡◌, ℕ, zero, suc, ℤ, pos, negsuc, ◌+◌, ◌*◌, ◌^◌, ◌<◌, ◌≤◌, ◌+ℤ◌, ◌-ℤ◌, ◌*ℤ◌, ◌<ℤ◌, ◌≤ℤ◌, List, [], ◌∷◌, refl, sym, ◌∙◌, ap, subst, inl, inr, IsTrue, Result, Ok, arith}
-use Rattle.std.specs.Prelude.{unsigned_abs, neg_ℤ}
+use Rattle.std.proofs.Common.{Bool, true, false, cond, filter, ◌≡◌, ℕ, zero, suc, ℤ, pos, negsuc, ◌*◌, ◌^◌, ◌<◌, ◌≤◌, ◌+ℤ◌, ◌-ℤ◌, ◌*ℤ◌, ◌<ℤ◌, ◌≤ℤ◌, List, [], ◌∷◌, refl, sym, ◌∙◌, ap, subst, inr, IsTrue, Result, Ok, arith}
+use Rattle.std.specs.Prelude.{unsigned_abs, neg_ℤ, not}
+use Rattle.std.specs.List.{AllByRecursion, AllZip}
 use Rattle.std.specs.Ordering.{is_ge, is_le}
 use Rattle.std.specs.declared.cmp.Ordering.{Ordering}
-use Rattle.std.specs.declared.cmp.Ordering.TheVariants.{Less, Equal, Greater}
+use Rattle.std.specs.declared.cmp.Ordering.TheVariants.{Less, Greater}
 use Rattle.std.proofs.Math.Nat.{mul-le-mul_left, mul-le-mul}
 use Rattle.std.proofs.lemmas.Int.{ints, unsigned_abs-mul}
-use Rattle.algebra.specs.Integers.{int_ops}
 use Rattle.algebra.specs.LowestTerms.{Parts, IsReduced}
 use Rattle.algebra.specs.Order.{int_sign}
 use Rattle.algebra.specs.Surd.{by_norm}
@@ -16,12 +16,20 @@ use Rattle.algebra.proofs.Euclid.{common_factor}
 use Rattle.algebra.proofs.Integers.{integers}
 use Rattle.algebra.proofs.Solvers.{reads_integers, ring_from, multiple, no_equation, sign_from, known, no_sign, not_negative, positive, sum, product, square, number, given}
 use Rattle.number_rules.specs.ExactText.{AreShort}
-use Rattle.number_rules.specs.Rounded.{IsRounded, IsReadable, steps_of_one}
+use Rattle.number_rules.specs.Rounded.{IsRounded, steps_of_one}
 use Rattle.number_rules.specs.Rows.{Gives, IsPast, IsNear, sign_over, denominator_of}
 use Rattle.number_rules.specs.declared.decimal.Decimal.{Decimal}
 use Rattle.number_rules.specs.declared.unread.Row.{Row}
 use Rattle.number_rules.specs.declared.unread.Row.TheVariants.{Exact, Grid, Root}
+use Rattle.number_rules.specs.declared.unread.Unread.{Unread}
+use Rattle.cp_lines.specs.declared.line.CpLine.{CpLine}
+use Rattle.scaled_plane.specs.declared.drawing.Ends.{Ends}
+use Rattle.scaled_plane.specs.declared.point.Pair.{Pair}
 use Rattle.scaled_plane.proofs.Quotients.{narrow_of}
+use Rattle.crease_input.specs.Files.{HasShortParts}
+use Rattle.crease_input.specs.Lines.{Answers, IsPoint, IsCrease, AnswersEnds, points}
+use Rattle.crease_input.specs.Points.{is_at, firsts}
+use Rattle.crease_input.specs.declared.crease.Crease.{Crease}
 
 -- ---- in lowest terms a part is no larger
 
@@ -180,3 +188,49 @@ row_short k (Grid n) d r three some most gives =
 row_short k (Root n) d r three some most gives =
     root_short k n d.near gives.1.0 gives.1.1 r three some most (near_enough d gives.0) gives.1.2.near_enough
     gives.1.2.within gives.1.3
+
+-- ---- vertices
+
+module _ {N : Type 0} (k : ℕ) (parts : N → Parts) (row : Row) (gives : Decimal → Result N Unread → Type 0)
+    (three : k ≤ 3) (some : 0 < denominator_of row) (most : denominator_of row ≤ 1000000) where
+  abbrev answers : List ℕ → Result N Unread → Type 0
+  answers = Answers k parts row gives
+
+  number_short : (text : List ℕ) (x : N) → answers text (Ok x) → AreShort (parts x)
+  number_short text x is = row_short k row is.decimal (parts x) three some most is.by_row
+
+  point_short : (x y : List ℕ) (p : Pair N) → IsPoint answers x y p → HasShortParts parts p
+  point_short x y p is = (number_short x p.x is.0, number_short y p.y is.1)
+
+  all_short : (lines : List CpLine) (creases : List (Crease N)) → AllZip (IsCrease answers) lines creases
+      → AllByRecursion (HasShortParts parts) (points creases)
+  all_short [] [] are = tt
+  all_short [] (c ∷ cs) are = absurd are
+  all_short (l ∷ ls) [] are = absurd are
+  all_short (l ∷ ls) (c ∷ cs) are = (
+    point_short l.x1 l.y1 c.from are.0.from,
+    (point_short l.x2 l.y2 c.to are.0.to, all_short ls cs are.1),
+  )
+
+  all_filtered : (P : Pair N → Type 0) (p : Pair N → Bool) (xs : List (Pair N)) → AllByRecursion P xs
+      → AllByRecursion P (filter p xs)
+  all_filtered P p [] all = tt
+  all_filtered P p (x ∷ xs) all = at (p x) (all_filtered P p xs all.1)
+    where
+      at : (b : Bool) → AllByRecursion P (filter p xs)
+          → AllByRecursion P (cond b (x ∷ filter p xs) (filter p xs))
+      at true rest = (all.0, rest)
+      at false rest = rest
+
+  all_firsts : (P : Pair N → Type 0) (ps : List (Pair N)) → AllByRecursion P ps
+      → AllByRecursion P (firsts parts ps)
+  all_firsts P [] all = tt
+  all_firsts P (p ∷ ps) all =
+      (all.0, all_filtered P (λ r. not (is_at parts p r)) (firsts parts ps) (all_firsts P ps all.1))
+
+  -- all vertices of lines that are read have short parts
+  pub ends_short : (lines : List CpLine) (ends : Ends N) → AnswersEnds parts answers lines (Ok ends)
+      → AllByRecursion (HasShortParts parts) ends.coords
+  ends_short lines ends is =
+      subst (AllByRecursion (HasShortParts parts)) (sym (ap (λ e. e.coords) is.2))
+      (all_firsts (HasShortParts parts) (points is.0) (all_short lines is.0 is.1))

@@ -1,5 +1,5 @@
 -- points as keys of a set: their laws
-use Rattle.std.specs.Prelude.{ℕ, ℤ, Bool, List, ◌++◌}
+use Rattle.std.specs.Prelude.{ℕ, ℤ, List, ◌++◌}
 use Rattle.std.specs.Cmp.{IsEquivalence, on_equiv, and_equiv, int_eq_equiv, signed_Decides}
 use Rattle.std.specs.Ordering.{int_eq}
 use Rattle.std.specs.Hash as hashed

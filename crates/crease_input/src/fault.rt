@@ -19,7 +19,9 @@ pub enum Counted {
 #[derive(Clone, Copy, Debug, PartialEq, Eq, Error)]
 pub enum InputFault {
     #[error("too many {what:?}")]
-    TooMany { what: Counted },
+    TooMany {
+        what: Counted,
+    },
     /// A coordinate is no number by the rule.
     #[error("unread {vertex} {axis:?} {cause:?}")]
     Unread {

@@ -14,18 +14,11 @@ use scaled_plane::{Edge, Ends, Face, Pair};
 use std::alloc::{AllocError, Global};
 
 /// Puts a key and its value to the others.
-fn put(
-    alloc: Global,
-    entries: &mut List<Entry>,
-    key: &str,
-    value: Value,
-) -> Result<(), AllocError>
+fn put(alloc: Global, entries: &mut List<Entry>, key: &str, value: Value) -> Result<(), AllocError>
     ensures { OnOk result (entries.new ≡ entries.old ++ entry key.now value ∷ []) }
 {
     let key = Text::from_text(alloc, key)?;
-    entries
-        .push(Entry { key, value })
-        .map_err(AllocError::from)
+    entries.push(Entry { key, value }).map_err(AllocError::from)
 }
 
 fn head(alloc: Global, class: &str) -> Result<List<Entry>, AllocError>
@@ -74,11 +67,7 @@ fn letters_of(alloc: Global, edges: &[Edge]) -> Result<Vec<Letter>, AllocError>
     edges.iter().map(|edge| edge.letter).collect(alloc)
 }
 
-fn put_edges(
-    alloc: Global,
-    entries: &mut List<Entry>,
-    edges: &[Edge],
-) -> Result<(), AllocError>
+fn put_edges(alloc: Global, entries: &mut List<Entry>, edges: &[Edge]) -> Result<(), AllocError>
     ensures { OnOk result (entries.new ≡ entries.old ++ edge_entries edges.now) }
 {
     let pairs = List::from_vec(pairs_of(alloc, edges)?);
@@ -101,9 +90,7 @@ fn corner_lists(alloc: Global, faces: &[Face]) -> Result<List<List<Option<u32>>>
     let mut lists = List::with_room(alloc, faces.len())?;
     for face in faces {
         let ids = ids_of(alloc, face.corners.as_slice())?;
-        lists
-            .push(List::from_vec(ids))
-            .map_err(AllocError::from)?;
+        lists.push(List::from_vec(ids)).map_err(AllocError::from)?;
     }
     Ok(lists)
 }

@@ -3,6 +3,7 @@ ghost use Rattle.std.specs.Prelude.{◌≡◌, ◌+◌, ◌*◌, ◌<◌, ◌≤
 ghost use Rattle.std.specs.List.{AllByRecursion};
 ghost use Rattle.number_rules.specs.Kept.{KeepsItsRow};
 ghost use Rattle.crease_input.specs.Lines.{IsReadable, Answers, AnswersEnds, IsWithin, edge_in};
+ghost use Rattle.crease_input.specs.Files.{HasShortParts};
 ghost use Rattle.crease_input.specs.Points.{place_in, with_point};
 ghost use Rattle.crease_input.specs.declared.fault.Counted.TheVariants.{Segments};
 ghost use Rattle.crease_input.specs.declared.fault.InputFault.TheVariants.{TooMany};
@@ -23,10 +24,7 @@ use std::alloc::{AllocError, Global};
 const MOST_SEGMENTS: usize = 2048;
 
 /// The place of the point among the vertices, the last of which it becomes where it's none of them.
-fn vertex_at<N: Exact>(
-    corners: &mut IndexSet<Corner<N>>,
-    point: Pair<N>,
-) -> Result<u32, AllocError>
+fn vertex_at<N: Exact>(corners: &mut IndexSet<Corner<N>>, point: Pair<N>) -> Result<u32, AllocError>
     requires few { length corners.old.keys < 2 ^ 32 }
     ensures place { IfOk result (λ vertex. vertex ≡ place_in N.parts (map (λ c. c.point) corners.old.keys) point) }
     ensures points { OnOk result (map (λ c. c.point) corners.new.keys
@@ -82,6 +80,7 @@ pub fn all_lines_ends<N: Exact, F: Fn(Decimal) -> Result<N, Unread>>(
     requires few { length lines.now < 2 ^ 31 }
     ensures ends { AnswersEnds N.parts (Answers N.ROOT N.parts rule.now.row (F.post rule.now.call)) lines.now result }
     ensures within { IfOk result (λ ends. IsWithin lines.now ends) }
+    ensures short { IfOk result (λ ends. AllByRecursion (HasShortParts N.parts) ends.coords) }
 {
     let mut corners = IndexSet::new(alloc);
     let mut edges = List::with_room(alloc, lines.len())?;
@@ -106,6 +105,7 @@ pub fn lines_ends<N: Exact, F: Fn(Decimal) -> Result<N, Unread>>(
         → AnswersEnds N.parts (Answers N.ROOT N.parts rule.now.row (F.post rule.now.call)) lines.now result }
     ensures too_many { 2048 < length lines.now → result ≡ Err (TooMany Segments) }
     ensures within { IfOk result (λ ends. IsWithin lines.now ends) }
+    ensures short { IfOk result (λ ends. AllByRecursion (HasShortParts N.parts) ends.coords) }
 {
     if lines.len() > MOST_SEGMENTS {
         return Err(InputFault::TooMany {

@@ -12,7 +12,10 @@ use fold_base::{Letter, List};
 use fold_frames::effective;
 use fold_keys::{FaceOrder, to_json};
 use json_tree::{NumberText, print};
-use number_rules::{Decimal, NumberRule, Unread, exact_rule, grid_rule, read_exact, read_grid, read_root_two, root_two_rule};
+use number_rules::{
+    Decimal, NumberRule, Unread, exact_rule, grid_rule, read_exact, read_grid, read_root_two,
+    root_two_rule,
+};
 use rational::Rational;
 use root_two::RootTwo;
 use scaled_plane::{Edge, Ends, Face, Pair};
@@ -60,7 +63,12 @@ fn fault_of<N: Exact, F: Fn(Decimal) -> Result<N, Unread>>(
 fn by_a_grid(rt: HostRuntime) -> Result<(), Fail> {
     let alloc = rt.alloc();
     let rule = grid_rule(1000, |value: Decimal| read_grid::<Rational>(1000, value));
-    let lines = [line(&rt, alloc, 2, ["1.4210854715202004E-14", "0", "200.0", "0.3335"])?];
+    let lines = [line(
+        &rt,
+        alloc,
+        2,
+        ["1.4210854715202004E-14", "0", "200.0", "0.3335"],
+    )?];
     let ends = lines_ends(alloc, &lines, &rule)?;
     let coords = ends.coords.as_slice().iter();
     assert_eq!(rt; ends.coords.len(), 2);
@@ -167,12 +175,15 @@ fn a_drawing_as_a_file(rt: HostRuntime) -> Result<(), Fail> {
     };
     let file = drawing_file(alloc, "creasePattern", &ends, None, None)?;
     let text = print(alloc, &to_json(alloc, &file)?)?;
-    assert_eq!(rt; text.as_str(), concat!(
-        r#"{"file_spec":1.2,"file_creator":"fold_program","frame_classes":["creasePattern"],"#,
-        r#""vertices_coords":[[0.414213562,0],[1,0]],"#,
-        r#""fx:vertices_coords":[["-1,1,1","0,0,1"],["1,0,1","0,0,1"]],"#,
-        r#""edges_vertices":[[0,1]],"edges_assignment":["M"]}"#
-    ));
+    assert_eq!(rt;
+        text.as_str(),
+        concat!(
+            r#"{"file_spec":1.2,"file_creator":"fold_program","frame_classes":["creasePattern"],"#,
+            r#""vertices_coords":[[0.414213562,0],[1,0]],"#,
+            r#""fx:vertices_coords":[["-1,1,1","0,0,1"],["1,0,1","0,0,1"]],"#,
+            r#""edges_vertices":[[0,1]],"edges_assignment":["M"]}"#
+        )
+    );
     let frame = effective(alloc, &file, 0)?;
     assert_eq!(rt; frame_root(&frame), Some(2));
     Ok(())
@@ -198,11 +209,14 @@ fn faces_and_their_orders(rt: HostRuntime) -> Result<(), Fail> {
     let orders = List::from_slice(alloc, &[order])?;
     let file = drawing_file(alloc, "foldedForm", &ends, Some(&faces), Some(&orders))?;
     let text = print(alloc, &to_json(alloc, &file)?)?;
-    assert_eq!(rt; text.as_str(), concat!(
-        r#"{"file_spec":1.2,"file_creator":"fold_program","frame_classes":["foldedForm"],"#,
-        r#""vertices_coords":[[0,0]],"edges_vertices":[],"edges_assignment":[],"#,
-        r#""faces_vertices":[[0,0]],"faceOrders":[[0,0,-1]]}"#
-    ));
+    assert_eq!(rt;
+        text.as_str(),
+        concat!(
+            r#"{"file_spec":1.2,"file_creator":"fold_program","frame_classes":["foldedForm"],"#,
+            r#""vertices_coords":[[0,0]],"edges_vertices":[],"edges_assignment":[],"#,
+            r#""faces_vertices":[[0,0]],"faceOrders":[[0,0,-1]]}"#
+        )
+    );
     assert_eq!(rt; frame_root(&effective(alloc, &file, 0)?), None);
     Ok(())
 }

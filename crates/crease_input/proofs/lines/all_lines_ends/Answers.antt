@@ -1,7 +1,8 @@
-use Rattle.std.proofs.Common.{rules, ◌≡◌, ◌≤◌, [], map, length, sym, ap, subst, arith}
+use Rattle.std.proofs.Common.{rules, ◌≡◌, [], arith}
 use Rattle.std.proofs.lemmas.List.{length-map}
 use Rattle.std.proofs.lemmas.Result.{err_from_is_err_and}
-use Rattle.crease_input.proofs.Gathering.{StandsAt, stands_none, stands_more, stands_few, stands_refused, stands_whole, stands_handed, stands_within}
+use Rattle.crease_input.proofs.Gathering.{stands_none, stands_more, stands_few, stands_refused, stands_whole, stands_handed, stands_within}
+use Rattle.crease_input.proofs.Short.{ends_short}
 use Rattle.crease_input.proofs.lines.all_lines_ends.Goals as goal
 
 pub loop-number-init : goal.loop-number-init
@@ -43,3 +44,9 @@ returns-clause-within g c =
     c.loop-number.auto.number-end c.loop-number-test.false
     (stands_handed _ _ c.args.lines.now c.loop-number.number _ c.in_ok-coords.coords c.loop-number.edges
     c.in_ok-coords.ensures c.loop-number.invariant)
+
+pub returns-clause-short : goal.returns-clause-short
+returns-clause-short g c =
+    ends_short g.N.Exact.ROOT g.N.Exact.parts c.args.rule.now.row _ g.met.N.Exact.at_most_three
+    c.args.rule.now.above_zero c.args.rule.now.at_most_a_million c.args.lines.now
+    (record { coords = c.in_ok-coords.coords; edges = c.loop-number.edges }) (returns-clause-ends g c)

@@ -10,6 +10,6 @@ returns g c =
     let near = c.round_to_nine.result.near in (
       (λ t. (near, c.round_to_nine.ensures.exact.0 t)),
       (λ h. c.round_to_nine.ensures.exact.1 (subst (IsExactlyNine parts)
-      (c.one_nine.ensures.once g.N.Exact.ROOT parts h.0 near exact.radicand number
-      (c.one_nine.ensures.exact g.N.Exact.ROOT parts h.0 number h.1) c.round_to_nine.ensures.near) h.1)),
+          (c.one_nine.ensures.once g.N.Exact.ROOT parts h.0 near exact.radicand number
+          (c.one_nine.ensures.exact g.N.Exact.ROOT parts h.0 number h.1) c.round_to_nine.ensures.near) h.1)),
     )

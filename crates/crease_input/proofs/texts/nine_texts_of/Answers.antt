@@ -1,5 +1,5 @@
 use Rattle.std.proofs.Common.{rules}
-use Rattle.crease_input.proofs.Texted.{AreTexted, all_at, texted_none, texted_more, texted_all}
+use Rattle.crease_input.proofs.Texted.{all_at, texted_none, texted_more, texted_all}
 use Rattle.crease_input.specs.Files.{HasShortParts}
 use Rattle.std.proofs.Common.{subst, sym}
 use Rattle.crease_input.proofs.texts.nine_texts_of.Goals as goal
