@@ -1,11 +1,13 @@
 //! The plane at the rationals and at a+b√2: points that are scaled, the first that's too wide, points made exact again, and
-//! what segments have in common, what they are cut into, and the walks round the faces of that.
+//! what segments have in common, what they are cut into, the walks round the faces of that, and all of it in one call.
 #![tactic(auto)]
 
 #[cfg(test)]
 mod cutting;
 #[cfg(test)]
 mod meeting;
+#[cfg(test)]
+mod repairing;
 #[cfg(test)]
 mod scaling;
 #[cfg(test)]
