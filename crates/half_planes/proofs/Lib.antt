@@ -1,0 +1,8 @@
+pub mod Bounds
+pub mod Tightest
+pub mod Shadow
+pub mod Leaving
+pub mod Choices
+pub mod Clearing
+pub mod Eliminated
+pub mod Sizes

@@ -1,0 +1,5 @@
+pub mod HalfPlanes
+pub mod Bounds
+pub mod Sizes
+pub mod Elimination
+pub mod Intervals
