@@ -6,3 +6,4 @@ pub mod Choices
 pub mod Clearing
 pub mod Eliminated
 pub mod Sizes
+pub mod Entering

@@ -7,6 +7,7 @@ use Rattle.plane.specs.declared.point.Point.{Point}
 use Rattle.plane.specs.declared.point.Line.{Line}
 use Rattle.plane.specs.Points.{IsPoint}
 use Rattle.plane.specs.Lines.{LiesIn, line}
+use Rattle.plane.specs.Segments.{IsBetween}
 use Rattle.scaled_plane.specs.Drawn.{IsScaledPoint}
 
 -- some point lies in the open half-planes of all the lines
@@ -20,3 +21,7 @@ pub record IsFormed {A : Type 0} {k : ℕ} {surd : A → Surd ℤ} (numbers : Su
   pub from_scaled : IsScaledPoint numbers from
   pub to_scaled : IsScaledPoint numbers to
   pub is : l ≡ line numbers.ops from to
+
+-- some point between p and q lies in the open half-planes of all the lines
+abbrev pub Enters : {A : Type 0} → OrderedRing A → Point A → Point A → List (Line A) → Type 0
+Enters {A} K p q lines = (r : Point A) × IsPoint K r × IsBetween K p q r × LiesIn K lines r

@@ -3,3 +3,4 @@ pub mod Bounds
 pub mod Sizes
 pub mod Elimination
 pub mod Intervals
+pub mod Along

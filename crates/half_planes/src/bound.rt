@@ -1,11 +1,15 @@
-ghost use Rattle.std.specs.Prelude.{◌≡◌};
+ghost use Rattle.std.specs.Prelude.{◌≡◌, ◌≤◌, ◌*◌, ◌^◌};
+ghost use Rattle.exact_number.specs.Sizes.{whole_size};
+ghost use Rattle.plane.specs.Lines.{value};
+ghost use Rattle.scaled_plane.specs.Drawn.{IsScaledPoint};
 ghost use Rattle.scaled_plane.specs.Sizes.{IsLineSize};
 ghost use Rattle.half_planes.specs.Bounds.{gap};
 ghost use Rattle.half_planes.specs.Elimination.{level, under};
+ghost use Rattle.half_planes.specs.Along.{above_zero, along};
 ghost use Rattle.half_planes.specs.Sizes.{IsBoundSize};
 
 use exact_number::{Whole, cross};
-use plane::Line;
+use plane::{Line, Point};
 use std::cmp::Ordering;
 
 /// slope·x + offset is above zero: a bound on x, from below where the slope is above zero and from above where it's below.
@@ -48,4 +52,52 @@ pub fn bound_under<W: Whole>(lower: Line<W>, upper: Line<W>) -> Bound<W>
         slope: cross(lower.b, lower.a, upper.b, upper.a),
         offset: cross(lower.b, lower.c, upper.b, upper.c),
     }
+}
+
+/// x is above zero.
+pub fn above_zero<W: Whole>() -> Bound<W>
+    ensures value { result ≡ above_zero W.numbers.ops }
+    ensures size { IsBoundSize W.pair result }
+{
+    Bound {
+        slope: integer(1),
+        offset: integer(0),
+    }
+}
+
+/// A whole number without a root.
+fn integer<W: Whole>(n: i128) -> W
+    ensures { result ≡ W.numbers.int n }
+{
+    match W::from_pair(n, 0) {
+        Some(number) => number,
+        None => unreachable!(),
+    }
+}
+
+/// What a line asks of a point s·from + t·to, as a bound on s/t.
+pub fn bound_along<W: Whole>(line: Line<W>, from: Point<W>, to: Point<W>) -> Bound<W>
+    requires small { IsLineSize W.pair line }
+    requires first { IsScaledPoint W.numbers from }
+    requires second { IsScaledPoint W.numbers to }
+    ensures value { result ≡ along W.numbers.ops line from to }
+    ensures size { IsBoundSize W.pair result }
+{
+    Bound {
+        slope: value_at(line, from),
+        offset: value_at(line, to),
+    }
+}
+
+/// The value of a line at a point, which is above zero in the line's half-plane.
+fn value_at<W: Whole>(line: Line<W>, point: Point<W>) -> W
+    requires small { IsLineSize W.pair line }
+    requires scaled { IsScaledPoint W.numbers point }
+    ensures value { result ≡ value W.numbers.ops line point }
+    ensures size { whole_size (W.pair result) ≤ 27 * 2 ^ 45 }
+{
+    let by_x = line.a.mul(point.x);
+    let by_y = line.b.mul(point.y);
+    let by_w = line.c.mul(point.w);
+    by_x.add(by_y).add(by_w)
 }

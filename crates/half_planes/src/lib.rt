@@ -2,10 +2,12 @@
 #![tactic(auto)]
 
 mod bound;
+mod enters;
 mod interval;
 mod lines;
 mod meet;
 mod narrow;
 
+pub use enters::segment_enters;
 pub use lines::{LineSlice, Lines};
 pub use meet::meet_inside;
