@@ -7,3 +7,5 @@ pub mod Clearing
 pub mod Eliminated
 pub mod Sizes
 pub mod Entering
+pub mod Borders
+pub mod Stretches

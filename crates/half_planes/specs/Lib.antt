@@ -4,3 +4,4 @@ pub mod Sizes
 pub mod Elimination
 pub mod Intervals
 pub mod Along
+pub mod Faces

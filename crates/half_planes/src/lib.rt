@@ -3,11 +3,17 @@
 
 mod bound;
 mod enters;
+mod face;
 mod interval;
 mod lines;
 mod meet;
 mod narrow;
+mod overlap;
+mod together;
 
 pub use enters::segment_enters;
+pub use face::{Both, FaceLines, FaceView};
 pub use lines::{LineSlice, Lines};
 pub use meet::meet_inside;
+pub use overlap::{insides_meet, segment_enters_face, three_insides_meet};
+pub use together::segments_run_together;
