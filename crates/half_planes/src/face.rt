@@ -1,4 +1,5 @@
 ghost use Rattle.std.specs.Prelude.{◌≡◌, ◌<◌, ◌+◌, ◌^◌, ◌++◌, All, length, slice_get, Some};
+ghost use Rattle.std.proofs.Props.{props};
 ghost use Rattle.layers.proofs.Faces.{borders};
 ghost use Rattle.layers.specs.Sheets.{FoldedFace};
 ghost use Rattle.scaled_plane.specs.Drawn.{IsScaledPoint};
@@ -94,4 +95,44 @@ impl<A: Lines, B: Lines<Ring = A::Ring>> Lines for Both<A, B> {
             self.second.line(place - count)
         }
     }
+}
+
+/// A face by a slice of its corners.
+#[derive(Drop)]
+pub struct FaceSlice<'a, W: Whole> {
+    pub corners: &'a [Point<W>],
+    pub turned: bool,
+    pub ghost short: { length corners.now < 2 ^ 32 },
+    pub ghost scaled: { All (IsScaledPoint W.numbers) corners.now } by { Prim.hlevel props },
+}
+
+impl<'a, W: Whole> FaceSlice<'a, W> {
+    pub fn new(corners: &'a [Point<W>], turned: bool) -> FaceSlice<'a, W>
+        requires short { length corners.now < 2 ^ 32 }
+        requires scaled { All (IsScaledPoint W.numbers) corners.now }
+        ensures corners { result.corners.now ≡ corners.now }
+        ensures turned { result.turned ≡ turned }
+    {
+        FaceSlice { corners, turned }
+    }
+}
+
+impl<'a, W: Whole> FaceView for FaceSlice<'a, W> {
+    type Ring = W;
+
+    ghost face = { λ f. record { corners = f.corners.now; turned = f.turned } };
+
+    fn corner_count(&self) -> u32 {
+        self.corners.len() as u32
+    }
+
+    fn corner(&self, place: u32) -> Point<W> {
+        self.corners[place as usize]
+    }
+
+    fn is_turned(&self) -> bool {
+        self.turned
+    }
+
+    ghost scaled = { λ f. f.scaled };
 }
