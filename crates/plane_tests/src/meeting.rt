@@ -35,7 +35,7 @@ fn one<W: Whole>() -> W
     }
 }
 
-fn scaled<W: Whole>(place: Place) -> Option<Point<W>>
+pub fn scaled<W: Whole>(place: Place) -> Option<Point<W>>
     ensures { IfSome result (λ p. IsScaledPoint W.numbers p) }
 {
     if place.0.unsigned_abs() > MOST_SCALED || place.1.unsigned_abs() > MOST_SCALED {
@@ -63,7 +63,7 @@ pub fn segment<W: Whole>(from: Place, to: Place, letter: Letter) -> Option<Segme
 }
 
 /// Whether the ends of a segment are one point.
-fn is_point<W: Whole>(s: Segment<W>) -> bool
+pub fn is_point<W: Whole>(s: Segment<W>) -> bool
     requires { IsScaledSegment W.numbers s }
     ensures { IsTrue result ↔ IsSamePoint W.numbers.ring s.from s.to }
 {
