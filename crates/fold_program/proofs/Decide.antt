@@ -94,16 +94,16 @@ pub unbuilt : (said : Text → Option Text) (from to : Format)
     → IsUnbuilt from to → (o : ConvertOptions) → ¬ MeanConvert said o
 unbuilt said from to first second un o h =
     at o h.6
-    where
-      is_from : h.0 ≡ from
-      is_from = says_one NamesFormat Fold format_one (said (codes "from")) h.0 from h.3 first
+  where
+    is_from : h.0 ≡ from
+    is_from = says_one NamesFormat Fold format_one (said (codes "from")) h.0 from h.3 first
 
-      is_to : h.1 ≡ to
-      is_to = says_one NamesFormat Fold format_one (said (codes "to")) h.1 to h.4 second
+    is_to : h.1 ≡ to
+    is_to = says_one NamesFormat Fold format_one (said (codes "to")) h.1 to h.4 second
 
-      at : (o : ConvertOptions) → IsConversion h.0 h.1 h.2 o → ⊥
-      at (Frame frame other) c = no_formats (sym c.0 ∙ is_from ∙ un.0)
-      at Lines c = no_formats (sym un.1 ∙ sym is_to ∙ c.1)
+    at : (o : ConvertOptions) → IsConversion h.0 h.1 h.2 o → ⊥
+    at (Frame frame other) c = no_formats (sym c.0 ∙ is_from ∙ un.0)
+    at Lines c = no_formats (sym un.1 ∙ sym is_to ∙ c.1)
 
 convert_or_not : (said : Text → Option Text)
     → ((o : ConvertOptions) × MeanConvert said o) ⊎ ((o : ConvertOptions) → ¬ MeanConvert said o)

@@ -1,6 +1,6 @@
 use crate::arguments::words_after_name;
 use crate::run::{run, run_calm};
-use crate::status::{Limit, ShapeCause, Status, TextFault, WordsCause};
+use crate::status::{Limit, ShapeCause, SheetCause, Status, TextFault, WordsCause};
 use crate::words::{Command, ConvertOptions, Format, ShowOptions, read_words};
 use cp_lines::{CpCause, CpFault};
 use fold_base::{CalmSink, List, MemorySink, MemorySource, Text};
@@ -367,6 +367,98 @@ fn converts_a_frame(rt: HostRuntime) -> Result<(), Fail> {
     Ok(())
 }
 
+/// A square with a diagonal.
+const SQUARE: &[u8] = b"{\"vertices_coords\":[[0,0],[1,0],[1,1],[0,1]],\
+    \"edges_vertices\":[[0,1],[1,2],[2,3],[3,0],[0,2]],\
+    \"edges_assignment\":[\"B\",\"B\",\"B\",\"B\",\"V\"],\
+    \"faces_vertices\":[[0,1,2],[0,2,3]],\"faceOrders\":[[1,0,1]]}";
+
+#[test]
+fn converts_to_lines(rt: HostRuntime) -> Result<(), Fail> {
+    let rows: [(&[&str], &[u8], &[u8]); 5] = [
+        (
+            &["convert", "--to=cp"],
+            SQUARE,
+            b"1 0 0 1 0\n1 1 0 1 1\n1 1 1 0 1\n1 0 1 0 0\n3 0 0 1 1\n",
+        ),
+        // Each letter's kind, and a third coordinate of value 0.
+        (
+            &["convert", "--to=cp"],
+            b"{\"edges_assignment\":[\"M\",\"F\",\"U\",\"J\",\"C\"],\"vertices_coords\":[[0,0],[1.50,-0,-0.0E7]],\
+              \"edges_vertices\":[[0,1],[0,1],[0,1],[0,1],[1,1]]}",
+            b"2 0 0 1.50 -0\n4 0 0 1.50 -0\n4 0 0 1.50 -0\n4 0 0 1.50 -0\n1 1.50 -0 1.50 -0\n",
+        ),
+        // No letters.
+        (
+            &["convert", "--to=cp", "--frame=1"],
+            b"{\"vertices_coords\":[[2,3]],\"file_frames\":[{\"frame_parent\":0,\"frame_inherit\":true,\
+              \"edges_vertices\":[[0,0]]}]}",
+            b"4 2 3 2 3\n",
+        ),
+        (
+            &["convert", "--to=cp"],
+            b"{\"vertices_coords\":[],\"edges_vertices\":[]}",
+            b"",
+        ),
+        (&["convert", "--from=cp", "--to=cp"], SHOWN, PRINTED),
+    ];
+    for (words, input, output) in rows {
+        let row = Row {
+            words,
+            ..shown_fold(input, output)
+        };
+        check(&rt, rt.alloc(), row)?;
+    }
+    Ok(())
+}
+
+#[test]
+fn names_a_frame_without_lines(rt: HostRuntime) -> Result<(), Fail> {
+    let alloc = rt.alloc();
+    let missing = |key: &str| -> Result<Status, AllocError> {
+        let key = Text::from_text(alloc, key)?;
+        Ok(Status::Sheet(SheetCause::Missing { key }))
+    };
+    let rows: [(&[u8], Status, u8, &[u8]); 4] = [
+        (
+            b"{}",
+            missing("vertices_coords")?,
+            4,
+            b"fold_program: missing vertices_coords\n",
+        ),
+        (
+            b"{\"vertices_coords\":[[0,0,1]]}",
+            missing("edges_vertices")?,
+            4,
+            b"fold_program: missing edges_vertices\n",
+        ),
+        // A vertex without an edge, by the digits before the exponent.
+        (
+            b"{\"vertices_coords\":[[0,0],[1,1,0.0],[1,1,0.001E-99]],\"edges_vertices\":[[0,1]]}",
+            Status::Shape(ShapeCause::NotFlat { vertex: 2 }),
+            3,
+            b"fold_program: not flat 2\n",
+        ),
+        (
+            b"{\"file_frames\":[{}]}",
+            missing("vertices_coords")?,
+            4,
+            b"fold_program: missing vertices_coords\n",
+        ),
+    ];
+    for (input, status, code, notes) in rows {
+        assert_eq!(rt; status.code(), code);
+        let row = Row {
+            words: &["convert", "--to=cp"],
+            status,
+            notes,
+            ..shown_fold(input, b"")
+        };
+        check(&rt, alloc, row)?;
+    }
+    Ok(())
+}
+
 #[test]
 fn names_a_frame_that_cannot_be_had(rt: HostRuntime) -> Result<(), Fail> {
     let rows: [(&[u8], ShapeCause, &[u8]); 3] = [
@@ -543,25 +635,40 @@ fn reads_words(rt: HostRuntime) -> Result<(), Fail> {
 
 #[test]
 fn reads_words_of_convert(rt: HostRuntime) -> Result<(), Fail> {
+    use ConvertOptions::{Frame, Lines};
+    let to = Format::Fold;
     let refused = Err(WordsCause::Refused);
     let value = Err(WordsCause::Value);
-    let rows: [(&[&str], Result<u32, WordsCause>); 18] = [
-        (&["convert"], Ok(0)),
-        (&["convert", "--frame=0"], Ok(0)),
+    let cp = Format::Cp;
+    let rows: [(&[&str], Result<ConvertOptions, WordsCause>); 21] = [
+        (&["convert"], Ok(Frame { frame: 0, to })),
+        (&["convert", "--frame=0"], Ok(Frame { frame: 0, to })),
         (
             &["convert", "--frame=10", "--to=fold", "--from=fold"],
-            Ok(10),
+            Ok(Frame { frame: 10, to }),
         ),
-        (&["convert", "--frame", "7", "--"], Ok(7)),
-        (&["convert", "--frame=4294967295"], Ok(4_294_967_295)),
+        (
+            &["convert", "--frame", "7", "--"],
+            Ok(Frame { frame: 7, to }),
+        ),
+        (
+            &["convert", "--frame=4294967295"],
+            Ok(Frame {
+                frame: 4_294_967_295,
+                to,
+            }),
+        ),
+        (&["convert", "--to=cp"], Ok(Frame { frame: 0, to: cp })),
+        (&["convert", "--to=cp", "--from=cp"], Ok(Lines)),
+        (&["convert", "--to=cp", "--from=cp", "--frame=7"], Ok(Lines)),
+        (&["convert", "--to=cp", "--from=cp", "--frame=07"], value),
+        (&["convert", "--from=cp"], value),
         (&["convert", "--frame=4294967296"], value),
         (&["convert", "--frame="], value),
         (&["convert", "--frame=01"], value),
         (&["convert", "--frame=+1"], value),
         (&["convert", "--frame=1.0"], value),
         (&["convert", "--frame=fold"], value),
-        (&["convert", "--from=cp"], value),
-        (&["convert", "--to=cp"], value),
         (&["convert", "--to=opx", "--frame=1"], value),
         (&["convert", "--frame=1", "--frame=1"], refused),
         (&["convert", "--number=exact"], refused),
@@ -572,7 +679,7 @@ fn reads_words_of_convert(rt: HostRuntime) -> Result<(), Fail> {
         let words = strings(rt.alloc(), words)?;
         let read = read_words(rt.alloc(), &words);
         let expected = match expected {
-            Ok(frame) => Ok(Command::Convert(ConvertOptions { frame })),
+            Ok(options) => Ok(Command::Convert(options)),
             Err(cause) => Err(Status::Words(cause)),
         };
         assert_eq!(rt; read, expected, "{words:?}");

@@ -49,6 +49,9 @@ returns-in-None-clause-err c =
     let found = found_of c.args.options.now in
     let from : option_map (λ s. s.now) c.get_str.result ≡ said_in (rows_of found) (codes "from") = c.get_str.ensures ∙ first_value-rows found (codes "from") in
     let to : option_map (λ s. s.now) c.get_str-2.result ≡ said_in (rows_of found) (codes "to") = c.get_str-2.ensures ∙ first_value-rows found (codes "to") in
-    inr (refl, unbuilt (said_in (rows_of found)) c.in_ok-from.from c.in_ok-to.to
-    (subst (λ t. Says NamesFormat Fold t c.in_ok-from.from) from c.in_ok-from.ensures.ok)
-    (subst (λ t. Says NamesFormat Fold t c.in_ok-to.to) to c.in_ok-to.ensures.ok) c.in-None.ensures)
+    inr (
+      refl,
+      unbuilt (said_in (rows_of found)) c.in_ok-from.from c.in_ok-to.to
+          (subst (λ t. Says NamesFormat Fold t c.in_ok-from.from) from c.in_ok-from.ensures.ok)
+          (subst (λ t. Says NamesFormat Fold t c.in_ok-to.to) to c.in_ok-to.ensures.ok) c.in-None.ensures,
+    )
