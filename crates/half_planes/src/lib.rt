@@ -12,7 +12,7 @@ mod overlap;
 mod together;
 
 pub use enters::segment_enters;
-pub use face::{Both, FaceLines, FaceSlice, FaceView};
+pub use face::{FaceSlice, FaceView};
 pub use lines::{LineSlice, Lines};
 pub use meet::meet_inside;
 pub use overlap::{insides_meet, segment_enters_face, three_insides_meet};
