@@ -122,19 +122,38 @@ fn cross_point<W: Whole>(s: Segment<W>, t: Segment<W>) -> Point<W> {
 
 enum Meet<W> {
     Apart,
-    Touches,
+    Touches(Point<W>),
     Crosses(Point<W>),
-    Along,
+    Along(Point<W>, Point<W>),
 }
 
 fn are_apart(first: Ordering, second: Ordering) -> bool {
     first == Ordering::Equal || first != second
 }
 
+fn in_order<W: Whole>(s: Segment<W>) -> (Point<W>, Point<W>) {
+    match compare(s.from, s.to) {
+        Ordering::Greater => (s.to, s.from),
+        _ => (s.from, s.to),
+    }
+}
+
+/// The common points of two segments on one line.
+fn meet_along<W: Whole>(s: Segment<W>, t: Segment<W>) -> Meet<W> {
+    let ((a, b), (c, d)) = (in_order(s), in_order(t));
+    let low = if compare(a, c) == Ordering::Less { c } else { a };
+    let high = if compare(b, d) == Ordering::Less { b } else { d };
+    match compare(low, high) {
+        Ordering::Less => Meet::Along(low, high),
+        Ordering::Equal => Meet::Touches(low),
+        Ordering::Greater => Meet::Apart,
+    }
+}
+
 fn meet<W: Whole>(s: Segment<W>, t: Segment<W>) -> Meet<W> {
     let sides = (orient(s.from, s.to, t.from), orient(s.from, s.to, t.to));
     if sides == (Ordering::Equal, Ordering::Equal) {
-        return Meet::Along;
+        return meet_along(s, t);
     }
     if !are_apart(sides.0, sides.1) {
         return Meet::Apart;
@@ -143,10 +162,17 @@ fn meet<W: Whole>(s: Segment<W>, t: Segment<W>) -> Meet<W> {
     if !are_apart(back.0, back.1) {
         return Meet::Apart;
     }
-    if [sides.0, sides.1, back.0, back.1].contains(&Ordering::Equal) {
-        return Meet::Touches;
+    if sides.0 == Ordering::Equal {
+        Meet::Touches(t.from)
+    } else if sides.1 == Ordering::Equal {
+        Meet::Touches(t.to)
+    } else if back.0 == Ordering::Equal {
+        Meet::Touches(s.from)
+    } else if back.1 == Ordering::Equal {
+        Meet::Touches(s.to)
+    } else {
+        Meet::Crosses(cross_point(s, t))
     }
-    Meet::Crosses(cross_point(s, t))
 }
 
 struct Random {
@@ -214,9 +240,9 @@ fn answers<W: Whole>(question: &str, rounds: u32) -> i128 {
                 for place in 1..segments.len() {
                     let part = match meet(segments[place - 1], segments[place]) {
                         Meet::Apart => 1,
-                        Meet::Touches => 2,
+                        Meet::Touches(point) => 2 + point.w.first() - 1,
                         Meet::Crosses(point) => point.w.first(),
-                        Meet::Along => 3,
+                        Meet::Along(low, high) => 3 + low.w.first() - high.w.first(),
                     };
                     sum = summed(sum, part);
                 }
