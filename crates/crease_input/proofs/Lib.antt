@@ -4,3 +4,4 @@ pub mod Gathering
 pub mod Texted
 pub mod Drawn
 pub mod Short
+pub mod Zeros

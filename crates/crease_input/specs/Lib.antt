@@ -3,3 +3,4 @@ pub mod Keys
 pub mod Lines
 pub mod Roots
 pub mod Files
+pub mod Flat

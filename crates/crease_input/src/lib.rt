@@ -6,6 +6,7 @@ mod corner;
 mod crease;
 mod fault;
 mod file;
+mod flat;
 mod lines;
 mod reading;
 mod root;
@@ -13,6 +14,7 @@ mod texts;
 
 pub use fault::{Axis, Counted, InputFault};
 pub use file::drawing_file;
+pub use flat::first_raised;
 pub use lines::{all_lines_ends, lines_ends};
 pub use root::frame_root;
 
