@@ -2,3 +2,8 @@ pub mod Quotients
 pub mod Exact
 pub mod Keeping
 pub mod Refusals
+pub mod Ordered
+pub mod SamePoints
+pub mod SameWalks
+pub mod OneScaling
+pub mod OneDrawing

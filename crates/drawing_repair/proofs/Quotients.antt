@@ -9,7 +9,7 @@ use Rattle.algebra.specs.NumberField.{IsFraction}
 use Rattle.algebra.specs.Order.{int_sign, product_sign}
 use Rattle.algebra.specs.Surd.{Surd, surd_mul, surd_int, surd_sign}
 use Rattle.algebra.specs.WholeSurds.{SurdNumbers}
-use Rattle.algebra.proofs.FractionsOfSurds.{fraction_once}
+use Rattle.algebra.proofs.FractionsOfSurds.{fraction_lowest, fraction_once}
 use Rattle.algebra.proofs.IntegerRing.{int_ring}
 use Rattle.algebra.proofs.Integers.{integers}
 use Rattle.algebra.proofs.LowestForms.{greater_of_positive}
@@ -83,3 +83,11 @@ module _ {W : Type 0} {k : ℕ} {surd : W → Surd ℤ} (numbers : SurdNumbers k
       = subst (λ z. IsFraction k n z s) of_second (subst (λ z. IsFraction k z (times k (over k (surd v) common) (surd w)) s) tops (multiplied k (surd y) (over k (surd v) common) (surd w) s j.fraction)) in
       let above : numbers.sign (numbers.mul w v) ≡ Greater = numbers.sign_mul w v ∙ ap (λ s. product_sign s (numbers.sign v)) w_above ∙ ap (product_sign Greater) v_above in
       fraction_once k n d (not_zero (numbers.mul w v) above) r s h.lowest j.lowest first second
+
+  -- what x / w is, y / v is
+  pub quotient_moved : (x w y v : W) (r : Parts) → numbers.sign w ≡ Greater → numbers.sign v ≡ Greater → numbers.mul x v ≡ numbers.mul y w
+      → IsQuotient k (surd x) (surd w) common r → IsQuotient k (surd y) (surd v) common r
+  quotient_moved x w y v r w_above v_above same h =
+      let some = fraction_lowest k (surd y) (over k (surd v) common) (not_zero v v_above) in
+      let of : IsQuotient k (surd y) (surd v) common some.0 = record { lowest = some.1.0; fraction = some.1.1 } in
+      subst (IsQuotient k (surd y) (surd v) common) (sym (one_quotient x w y v r some.0 w_above v_above same h of)) of

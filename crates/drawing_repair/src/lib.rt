@@ -5,9 +5,11 @@ mod answer;
 mod coordinates;
 mod cutting;
 mod kept;
+mod laws;
 mod options;
 mod repair;
 
 pub use answer::{Repaired, RepairFault, Stage};
+pub use laws::one_drawing;
 pub use options::{Faces, Flat};
 pub use repair::repair_ends;
