@@ -1,0 +1,8 @@
+//! Folding a sheet flat: the maps of the plane that place its faces.
+#![tactic(auto)]
+
+mod laws;
+mod motion;
+
+pub use laws::{compositions, isometries, operations, reflections};
+pub use motion::Motion;
