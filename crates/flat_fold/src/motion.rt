@@ -1,6 +1,7 @@
 ghost use Rattle.std.specs.Prelude.{◌≡◌};
-ghost use Rattle.flat_fold.specs.Computed.{Answers, exact};
-ghost use Rattle.flat_fold.specs.Motions.{identity};
+ghost use Rattle.std.specs.Result.{OkIff};
+ghost use Rattle.flat_fold.specs.Computed.{Answers, Fits, exact};
+ghost use Rattle.flat_fold.specs.Motions.{identity, place, composed, reflection};
 ghost use Rattle.flat_fold.specs.Operations.{combining, turning, placing, composing, mirroring, reflecting};
 
 use exact_number::{Exact, Overflow, whole_number};
@@ -59,7 +60,7 @@ impl<N: Exact> Motion<N> {
     /// The place of the point `a`.
     #[tactic(none)]
     pub fn place(self, a: Pair<N>) -> Result<Pair<N>, Overflow>
-        ensures { Answers result (placing (exact N.numbers) self a) }
+        ensures { OkIff result (Fits (placing (exact N.numbers) self a)) (place N.numbers.field self a) }
     {
         let way = self.turned_way(a)?;
         let x = way.x.add(self.p)?;
@@ -70,7 +71,7 @@ impl<N: Exact> Motion<N> {
     /// First `inner`, then this map.
     #[tactic(none)]
     pub fn composed(self, inner: Motion<N>) -> Result<Motion<N>, Overflow>
-        ensures { Answers result (composing (exact N.numbers) self inner) }
+        ensures { OkIff result (Fits (composing (exact N.numbers) self inner)) (composed N.numbers.field self inner) }
     {
         let way = self.turned_way(Pair {
             x: inner.c,
@@ -115,7 +116,7 @@ impl<N: Exact> Motion<N> {
     #[tactic(none)]
     pub fn reflection(a: Pair<N>, b: Pair<N>) -> Result<Motion<N>, Overflow>
         requires { ¬ (a ≡ b) }
-        ensures { Answers result (reflecting (exact N.numbers) a b) }
+        ensures { OkIff result (Fits (reflecting (exact N.numbers) a b)) (reflection N.numbers.field a b) }
     {
         let u = b.x.sub(a.x)?;
         let v = b.y.sub(a.y)?;
