@@ -1,3 +1,6 @@
 pub mod Chains
 pub mod MotionLaws
 pub mod OperationLaws
+pub mod Walks
+pub mod PathMaps
+pub mod FoldingLaws

@@ -1,3 +1,5 @@
 pub mod Computed
 pub mod Motions
 pub mod Operations
+pub mod Faces
+pub mod Folding

@@ -1,11 +1,13 @@
-ghost use Rattle.std.specs.Prelude.{◌≡◌};
+ghost use Rattle.std.specs.Prelude.{◌≡◌, ◌↔◌, ◌<◌, ℕ, List, length};
 ghost use Rattle.algebra.specs.OrderedField.{OrderedField};
-ghost use Rattle.flat_fold.specs.Computed.{ComputedField};
+ghost use Rattle.flat_fold.specs.Computed.{Computed, ComputedField};
+ghost use Rattle.flat_fold.specs.Faces.{IsWalk};
+ghost use Rattle.flat_fold.specs.Folding.{IsFoldable, IsPathMap, Closes, Disagrees, GoesRound, point, walk_map};
 ghost use Rattle.flat_fold.specs.Motions.{place, identity, composed, reflection, IsIsometry, IsOnLine, squared_distance, doubled_area, handedness};
 ghost use Rattle.flat_fold.specs.Operations.{placing, composing, reflecting};
 
 use crate::motion::Motion;
-use scaled_plane::Pair;
+use scaled_plane::{Edge, Face, Pair};
 
 /// The operations come to the places and maps that they are named for.
 pub fn operations<T>()
@@ -46,4 +48,20 @@ pub fn isometries<T>()
         → doubled_area F (place F m a) (place F m b) (place F m d) ≡ F.mul (handedness F m) (doubled_area F a b d) }
     ensures identity { (F : OrderedField T) → IsIsometry F (identity F) }
     ensures composed { (F : OrderedField T) (m n : Motion T) → IsIsometry F m → IsIsometry F n → IsIsometry F (composed F m n) }
+{}
+
+/// Faces that have path maps close exactly where no edge disagrees: then every closed walk of faces, by whatever edges, has
+/// the identity as its map. Then too each walk from face 0 to a face gives the face's path map, and the faces that follow
+/// each other round a vertex place it alike.
+pub fn closing<T>()
+    ensures exactly { (K : ComputedField T) (coords : List (Pair T)) (edges : List Edge) (faces : List Face) → IsFoldable K.field coords edges faces
+        → (path : ℕ → Computed (Motion T)) → ((f : ℕ) → f < length faces → IsPathMap K coords edges faces f (path f))
+        → Closes K.field coords edges faces ↔ ((e : ℕ) → ¬ Disagrees K coords edges faces e) }
+    ensures walks { (K : ComputedField T) (coords : List (Pair T)) (edges : List Edge) (faces : List Face) → IsFoldable K.field coords edges faces
+        → Closes K.field coords edges faces → (f : ℕ) (m : Computed (Motion T)) (es : List ℕ) → IsPathMap K coords edges faces f m
+        → IsWalk edges faces 0 es f → walk_map K.field coords edges es ≡ m.value }
+    ensures vertices { (K : ComputedField T) (coords : List (Pair T)) (edges : List Edge) (faces : List Face) → IsFoldable K.field coords edges faces
+        → Closes K.field coords edges faces → (v f g : ℕ) (es : List ℕ) (m n : Computed (Motion T)) → IsWalk edges faces f es g
+        → GoesRound K.field coords edges faces v es → IsPathMap K coords edges faces f m → IsPathMap K coords edges faces g n
+        → place K.field m.value (point K.field coords v) ≡ place K.field n.value (point K.field coords v) }
 {}

@@ -4,5 +4,5 @@
 mod laws;
 mod motion;
 
-pub use laws::{compositions, isometries, operations, reflections};
+pub use laws::{closing, compositions, isometries, operations, reflections};
 pub use motion::Motion;
