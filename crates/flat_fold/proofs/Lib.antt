@@ -4,3 +4,7 @@ pub mod OperationLaws
 pub mod Walks
 pub mod PathMaps
 pub mod FoldingLaws
+pub mod RoundLaws
+pub mod EdgeReads
+pub mod Tests
+pub mod EdgePlaces

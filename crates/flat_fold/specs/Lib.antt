@@ -3,3 +3,5 @@ pub mod Motions
 pub mod Operations
 pub mod Faces
 pub mod Folding
+pub mod Rounds
+pub mod PathMaps

@@ -1,8 +1,14 @@
-//! Folding a sheet flat: the maps of the plane that place its faces.
+//! Folding a sheet flat: the maps of the plane that place its faces, and where closed walks of faces come back to.
 #![tactic(auto)]
 
+mod agreement;
 mod laws;
+mod levels;
 mod motion;
+mod sheet;
 
+pub use agreement::first_disagreeing;
 pub use laws::{closing, compositions, isometries, operations, reflections};
+pub use levels::{Between, MapFault, path_maps};
 pub use motion::Motion;
+pub use sheet::Sheet;
