@@ -228,10 +228,12 @@ module _ {N W : Type 0} {k j : ℕ} {surd : W → Surd ℤ} (parts : N → Parts
       let also = cut_there s t vertices others h i in
       let other = zip_get (IsSamePoint numbers.ring) vertices others v wide.0 (vertices_zip numbers.ring (segments_of s) vertices others h.cuts also.cuts) wide.1 in
       let here = points_good numbers.ring (segments_of s) vertices h.cuts wide.0 (in_of_place vertices v wide.0 wide.1) in
-      let there = points_good numbers.ring (segments_of s) others also.cuts other.0 (in_of_place others v other.0 other.1) in
-      (other.0, other.1,
-      subst (λ (x : Scaled W). IsTooWideExact k surd other.0 x.common) same
-      (wide_moved parts numbers holds s.common (common_positive s h.points) wide.0 other.0 here there other.2 wide.2))
+      let there = points_good numbers.ring (segments_of s) others also.cuts other.0 (in_of_place others v other.0 other.1) in (
+        other.0,
+        other.1,
+        subst (λ (x : Scaled W). IsTooWideExact k surd other.0 x.common) same
+            (wide_moved parts numbers holds s.common (common_positive s h.points) wide.0 other.0 here there other.2 wide.2),
+      )
 
   wide_or_drawn : (v : ℕ) → Wide v → (scaled : Scaled W) (vertices : List (Point W)) (drawn : Ends N) → IsDrawing scaled vertices drawn → ⊥
   wide_or_drawn v wide scaled vertices drawn h =

@@ -53,12 +53,7 @@ pub fn cut_ends<N: Exact>(
     ensures refused { IfErr result (λ e. IsMemory e ⊎ ((faces : AnyFaces) → IsRefusal N.parts N.Ring.numbers flat ends.now faces e)) }
 {
     let scaled = scale_all(alloc, &ends.coords)?;
-    let segments = segments_kept(
-        alloc,
-        scaled.points.as_slice(),
-        ends.edges.as_slice(),
-        flat,
-    )?;
+    let segments = segments_kept(alloc, scaled.points.as_slice(), ends.edges.as_slice(), flat)?;
     let drawing = counted_pieces::<N::Ring, Brand>(alloc, Blank::new(1), &segments)?;
     Ok((scaled, drawing))
 }

@@ -9,7 +9,7 @@ mod laws;
 mod options;
 mod repair;
 
-pub use answer::{Repaired, RepairFault, Stage};
+pub use answer::{RepairFault, Repaired, Stage};
 pub use laws::one_drawing;
 pub use options::{Faces, Flat};
 pub use repair::repair_ends;

@@ -21,10 +21,15 @@ type Spot = (Number, Number);
 type Piece = (u32, u32, Letter);
 
 const B: Letter = Letter::Border;
+
 const M: Letter = Letter::Mountain;
+
 const V: Letter = Letter::Valley;
+
 const F: Letter = Letter::Flat;
+
 const U: Letter = Letter::Unassigned;
+
 const J: Letter = Letter::Join;
 
 fn at(x: i128, y: i128) -> Spot {
@@ -160,7 +165,11 @@ fn diagonals_part_the_square(rt: HostRuntime) -> Result<(), Fail> {
             (3, 4, B),
         ],
     )?;
-    check_faces(&rt, &answer, &[&[0, 2, 1], &[0, 3, 2], &[1, 2, 4], &[2, 3, 4]])
+    check_faces(
+        &rt,
+        &answer,
+        &[&[0, 2, 1], &[0, 3, 2], &[1, 2, 4], &[2, 3, 4]],
+    )
 }
 
 #[test]
@@ -219,7 +228,12 @@ fn flat_creases_are_dropped_and_joins_stay(rt: HostRuntime) -> Result<(), Fail> 
     let pieces = [(0, 1, J), (0, 2, F)];
     let kept = repaired(rt.alloc(), &spots, &pieces, Flat::Keep, Faces::Skip)??;
     assert!(&rt; kept.faces.is_none());
-    check_ends(&rt, &kept, &[at(0, 0), at(1, 1), at(2, 0)], &[(0, 1, F), (0, 2, J)])?;
+    check_ends(
+        &rt,
+        &kept,
+        &[at(0, 0), at(1, 1), at(2, 0)],
+        &[(0, 1, F), (0, 2, J)],
+    )?;
     let dropped = repaired(rt.alloc(), &spots, &pieces, Flat::Drop, Faces::Find)??;
     check_ends(&rt, &dropped, &[at(0, 0), at(2, 0)], &[(0, 1, J)])?;
     check_faces(&rt, &dropped, &[])
@@ -230,7 +244,15 @@ fn what_is_dropped_is_scaled_too(rt: HostRuntime) -> Result<(), Fail> {
     let spots = [at(0, 0), at(1, 0), at(4_194_305, 0)];
     let pieces = [(0, 1, M), (1, 2, F)];
     let answer = repaired::<Rational>(rt.alloc(), &spots, &pieces, Flat::Drop, Faces::Find)?;
-    assert!(&rt; matches!(&answer, Err(RepairFault::TooWide { vertex: 2, stage: Stage::Input })));
+    assert!(&rt;
+        matches!(
+            &answer,
+            Err(RepairFault::TooWide {
+                vertex: 2,
+                stage: Stage::Input
+            })
+        )
+    );
     Ok(())
 }
 
@@ -254,7 +276,15 @@ fn a_crossing_may_be_too_wide_to_write(rt: HostRuntime) -> Result<(), Fail> {
     ];
     let pieces = [(0, 1, M), (2, 3, V)];
     let answer = repaired::<RootTwo>(rt.alloc(), &spots, &pieces, Flat::Keep, Faces::Skip)?;
-    assert!(&rt; matches!(&answer, Err(RepairFault::TooWide { vertex: 2, stage: Stage::Drawn })));
+    assert!(&rt;
+        matches!(
+            &answer,
+            Err(RepairFault::TooWide {
+                vertex: 2,
+                stage: Stage::Drawn
+            })
+        )
+    );
     Ok(())
 }
 

@@ -11,10 +11,14 @@ returns-in-None-clause-too_wide g c =
     let is = to_z-of_z w128 c.args.common c.ranges.common in
     let p = c.index-points-vertex.result in
     let wide = subst (λ (j : ℕ). IsTooWideExact j g.N.Ring.Whole.pair p c.args.common) (sym g.met.N.Exact.same_root) (rw is at c.in-None.ensures.answer) in
-    inr (c.loop-vertex.vertex, refl, (
-      wide_there g.N.Exact.parts g.N.Ring.Whole.numbers c.args.common c.requires.positive c.args.points.now c.loop-vertex.vertex p c.loop-vertex-test.true c.index-points-vertex.is wide,
-      rw is at c.loop-vertex.invariant.1,
-    ))
+    inr (
+      c.loop-vertex.vertex,
+      refl,
+      (
+        wide_there g.N.Exact.parts g.N.Ring.Whole.numbers c.args.common c.requires.positive c.args.points.now c.loop-vertex.vertex p c.loop-vertex-test.true c.index-points-vertex.is wide,
+        rw is at c.loop-vertex.invariant.1,
+      ),
+    )
 
 pub loop-vertex-preserved : goal.loop-vertex-preserved
 loop-vertex-preserved g c =

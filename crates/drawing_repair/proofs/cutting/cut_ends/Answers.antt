@@ -48,5 +48,8 @@ returns-in_err-drawing-clause-refused g c =
     (after_cutting _ ((vertices : List (Point g.row.N-Ring.Denot)) → AreVertices K c.in_ok-segments.segments vertices → 16384 < length vertices)
     (λ e. (faces : Faces) → IsRefusal g.N.Exact.parts g.N.Ring.Whole.numbers c.args.flat c.args.ends.now faces e)
     c.in_err-drawing.ensures.too_many
-    (λ many faces. (c.in_ok-scaled.scaled, c.in_ok-scaled.ensures.scaled,
-      λ vertices cut. many vertices (subst (λ (ss : List (Segment g.row.N-Ring.Denot)). AreVertices K ss vertices) (sym points) cut.cuts))))
+    (λ many faces. (
+      c.in_ok-scaled.scaled,
+      c.in_ok-scaled.ensures.scaled,
+      λ vertices cut. many vertices (subst (λ (ss : List (Segment g.row.N-Ring.Denot)). AreVertices K ss vertices) (sym points) cut.cuts),
+    )))

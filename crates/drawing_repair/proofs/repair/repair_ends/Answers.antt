@@ -29,10 +29,14 @@ returns-in_err-coords-clause-refused g c =
     let p = err_from_is_err_and c.from_residual-in_err-coords.result c.from_residual-in_err-coords.ensures.1 in
     rw (p.1, p.2) (elim c.in_err-coords.ensures.too_wide [
       | inl m ↦ inl m
-      | inr h ↦ inr (subst (IsRefusal g.N.Exact.parts numbers c.args.flat c.args.ends.now c.args.faces) (sym h.1)
-          (scaled, c.in_ok-scaled.drawing.vertices, cut.cut, cut.few,
-          subst (λ (z : ℤ). IsFirstOf (IsWideDrawn numbers c.in_ok-scaled.drawing.vertices z) h.0) is
-          (subst (λ (ps : List (Point g.row.N-Ring.Denot)). IsFirstOf (IsWideDrawn numbers ps (to_z w128 (of_z w128 scaled.common))) h.0) c.as_slice.ensures h.2)))
+      | inr h ↦ inr (subst (IsRefusal g.N.Exact.parts numbers c.args.flat c.args.ends.now c.args.faces) (sym h.1) (
+        scaled,
+        c.in_ok-scaled.drawing.vertices,
+        cut.cut,
+        cut.few,
+        subst (λ (z : ℤ). IsFirstOf (IsWideDrawn numbers c.in_ok-scaled.drawing.vertices z) h.0) is
+            (subst (λ (ps : List (Point g.row.N-Ring.Denot)). IsFirstOf (IsWideDrawn numbers ps (to_z w128 (of_z w128 scaled.common))) h.0) c.as_slice.ensures h.2),
+      ))
     ])
 
 pub returns-in_err-faces-clause-refused : goal.returns-in_err-faces-clause-refused
@@ -46,9 +50,14 @@ returns-in_err-faces-clause-refused g c =
     let p = err_from_is_err_and c.from_residual-in_err-faces.result c.from_residual-in_err-faces.ensures.1 in
     rw (p.1, p.2) (elim c.in_err-faces.ensures.parted [
       | inl m ↦ inl m
-      | inr h ↦ inr (subst (IsRefusal g.N.Exact.parts numbers c.args.flat c.args.ends.now c.args.faces) (sym h.1)
-          (scaled, drawing.vertices, record { coords = c.in_ok-coords.coords; edges = drawing.edges }, h.2,
-          record { cut = cut.cut; few = cut.few; coords = coords; pieces = cut.pieces }, h.3))
+      | inr h ↦ inr (subst (IsRefusal g.N.Exact.parts numbers c.args.flat c.args.ends.now c.args.faces) (sym h.1) (
+        scaled,
+        drawing.vertices,
+        record { coords = c.in_ok-coords.coords; edges = drawing.edges },
+        h.2,
+        record { cut = cut.cut; few = cut.few; coords = coords; pieces = cut.pieces },
+        h.3,
+      ))
     ])
 
 pub returns-clause-regions : goal.returns-clause-regions
