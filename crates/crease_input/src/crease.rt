@@ -3,8 +3,8 @@ use scaled_plane::Pair;
 
 /// A line whose coordinates are read.
 #[derive(Clone, Copy)]
-pub(crate) struct Crease<N> {
-    pub(crate) from: Pair<N>,
-    pub(crate) to: Pair<N>,
-    pub(crate) letter: Letter,
+pub struct Crease<N> {
+    pub from: Pair<N>,
+    pub to: Pair<N>,
+    pub letter: Letter,
 }

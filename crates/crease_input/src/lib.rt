@@ -12,6 +12,7 @@ mod reading;
 mod root;
 mod texts;
 
+pub use crease::Crease;
 pub use fault::{Axis, Counted, InputFault};
 pub use file::drawing_file;
 pub use flat::first_raised;
