@@ -5,3 +5,4 @@ pub mod Texted
 pub mod Drawn
 pub mod Short
 pub mod Zeros
+pub mod OneAnswer

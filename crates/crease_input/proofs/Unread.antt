@@ -19,7 +19,7 @@ all_append P [] ys all more = more
 all_append P (x ∷ xs) ys all more = (all.0, all_append P xs ys all.1 more)
 
 module _ {N : Type 0} (answers : List ℕ → Result N Unread → Type 0) where
-  abbrev IsRead : List ℕ → Type 0
+  abbrev pub IsRead : List ℕ → Type 0
   IsRead t = (x : N) × answers t (Ok x)
 
   -- texts that are read before, and any texts behind
@@ -98,7 +98,7 @@ module _ {N : Type 0} (answers : List ℕ → Result N Unread → Type 0) where
 
   -- ---- lines
 
-  lines_read : (lines : List CpLine) (creases : List (Crease N))
+  pub lines_read : (lines : List CpLine) (creases : List (Crease N))
       → AllZip (IsCrease answers) lines creases
       → AllByRecursion IsRead (coordinates_of lines) × (length (coordinates_of lines) ≡ 4 * length lines)
   lines_read [] [] are = (tt, refl)

@@ -50,6 +50,10 @@ pub record Answers {N : Type 0} (k : ℕ) (parts : N → Parts) (row : Row) (giv
   pub kept : gives decimal r
   pub by_row : Reads k parts row decimal r
 
+-- a text has one answer at most
+abbrev pub IsOfOne : {N : Type 0} → (List ℕ → Result N Unread → Type 0) → Type 0
+IsOfOne {N} answers = (text : List ℕ) (r s : Result N Unread) → answers text r → answers text s → r ≡ s
+
 module _ {N : Type 0} (answers : List ℕ → Result N Unread → Type 0) where
   -- both coordinates of a point are read
   abbrev pub IsPoint : List ℕ → List ℕ → Pair N → Type 0
