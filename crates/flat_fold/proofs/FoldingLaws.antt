@@ -22,7 +22,7 @@ use Rattle.flat_fold.proofs.Walks.{walk-append, map-append, place-crossing_from,
 use Rattle.flat_fold.proofs.PathMaps.{closes-exactly, no-disagreement, walk-path, path-walk}
 
 -- a face that lies along a piece is one of the faces
-in_range : (edges : List Edge) (faces : List Face) (f u v : ℕ) → LiesAlong edges faces f u v → f < length faces
+pub in_range : (edges : List Edge) (faces : List Face) (f u v : ℕ) → LiesAlong edges faces f u v → f < length faces
 in_range edges faces f u v h = elim (cases_lt f (length faces)) [ inl less ↦ less | inr more ↦ absurd (past more) ]
   where
     past : length faces ≤ f → ⊥

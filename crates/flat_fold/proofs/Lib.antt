@@ -8,3 +8,4 @@ pub mod RoundLaws
 pub mod EdgeReads
 pub mod Tests
 pub mod EdgePlaces
+pub mod Triangle

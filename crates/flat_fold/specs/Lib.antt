@@ -5,3 +5,4 @@ pub mod Faces
 pub mod Folding
 pub mod Rounds
 pub mod PathMaps
+pub mod Triangle

@@ -4,6 +4,7 @@ ghost use Rattle.flat_fold.specs.Computed.{Computed, ComputedField};
 ghost use Rattle.flat_fold.specs.Faces.{IsWalk};
 ghost use Rattle.flat_fold.specs.Folding.{IsFoldable, IsPathMap, Closes, Disagrees, GoesRound, point, walk_map};
 ghost use Rattle.flat_fold.specs.Motions.{place, identity, composed, reflection, IsIsometry, IsOnLine, squared_distance, doubled_area, handedness};
+ghost use Rattle.flat_fold.specs.Triangle.{triangle_edges, triangle_faces};
 ghost use Rattle.flat_fold.specs.Operations.{placing, composing, reflecting};
 
 use crate::motion::Motion;
@@ -64,4 +65,9 @@ pub fn closing<T>()
         → Closes K.field coords edges faces → (v f g : ℕ) (es : List ℕ) (m n : Computed (Motion T)) → IsWalk edges faces f es g
         → GoesRound K.field coords edges faces v es → IsPathMap K coords edges faces f m → IsPathMap K coords edges faces g n
         → place K.field m.value (point K.field coords v) ≡ place K.field n.value (point K.field coords v) }
+{}
+
+/// A triangle with its face is foldable: what folding asks can be met.
+pub fn triangle_is_foldable<T>()
+    ensures { (F : OrderedField T) (coords : List (Pair T)) → length coords ≡ 3 → IsFoldable F coords triangle_edges triangle_faces }
 {}

@@ -8,7 +8,7 @@ mod motion;
 mod sheet;
 
 pub use agreement::first_disagreeing;
-pub use laws::{closing, compositions, isometries, operations, reflections};
+pub use laws::{closing, compositions, isometries, operations, reflections, triangle_is_foldable};
 pub use levels::{Between, MapFault, path_maps};
 pub use motion::Motion;
 pub use sheet::Sheet;
