@@ -131,3 +131,42 @@ impl<N: Exact> Motion<N> {
         Motion::mirror(c, s, a)
     }
 }
+
+#[cfg(test)]
+mod tests {
+    use super::*;
+    use rational::Rational;
+
+    type Parts = (i128, i128, i128);
+
+    /// The image of a point in the line through two others, whose x have different signs.
+    fn reflected(
+        a: Pair<Rational>,
+        b: Pair<Rational>,
+        point: Pair<Rational>,
+    ) -> Option<(Parts, Parts)> {
+        if a.x.sign() == b.x.sign() {
+            return None;
+        }
+        let mirror = Motion::reflection(a, b).ok()?;
+        let place = mirror.place(point).ok()?;
+        Some((place.x.parts(), place.y.parts()))
+    }
+
+    fn pair(x: i128, y: i128) -> Pair<Rational> {
+        Pair {
+            x: whole_number(x),
+            y: whole_number(y),
+        }
+    }
+
+    #[test]
+    fn reflected_points(rt: HostRuntime) {
+        let mirrored = reflected(pair(0, 0), pair(2, 1), pair(5, 0));
+        assert_eq!(rt; mirrored, Some(((3, 0, 1), (4, 0, 1))));
+        let kept = reflected(pair(-1, 2), pair(2, 3), pair(5, 4));
+        assert_eq!(rt; kept, Some(((5, 0, 1), (4, 0, 1))));
+        let past = reflected(pair(0, 0), pair(1 << 40, 1), pair(0, 1 << 60));
+        assert_eq!(rt; past, None);
+    }
+}
