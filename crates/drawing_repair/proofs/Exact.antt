@@ -2,13 +2,12 @@
 use Prim.Native.Nat.{ℕ, zero, suc, ◌+◌, ◌<◌}
 use Rattle.std.proofs.Common.{◌≡◌, ◌∙◌, ap, arith, inl, inr, refl, subst, sym}
 use Rattle.std.proofs.lemmas.List.{take_more}
-use Rattle.std.specs.List.{AllZip}
 use Rattle.std.specs.Prelude.{◌⊎◌, ℤ, pos, ◌<ℤ◌, List, [], ◌∷◌, ◌++◌, length, take, slice_get, slice_index_or, Some}
 use Rattle.algebra.specs.LowestTerms.{Parts}
 use Rattle.algebra.specs.Surd.{Surd}
 use Rattle.algebra.specs.WholeSurds.{SurdNumbers}
 use Rattle.plane.specs.declared.point.Point.{Point}
-use Rattle.plane.specs.Points.{IsPoint, IsSamePoint}
+use Rattle.plane.specs.Points.{IsPoint}
 use Rattle.scaled_plane.specs.declared.point.Pair.{Pair}
 use Rattle.scaled_plane.specs.Exact.{IsExactPoint, IsNarrow, IsTooWideExact}
 use Rattle.arrangement.proofs.Listed.{all_zip_push}

@@ -1,5 +1,5 @@
 -- Segments between scaled points.
-use Rattle.std.proofs.Common.{◌≡◌, ◌<◌, ap, subst, sym}
+use Rattle.std.proofs.Common.{◌<◌, subst, sym}
 use Rattle.std.proofs.lemmas.List.Elements.{All-contains}
 use Rattle.std.proofs.lemmas.Slice.Zip.{AllZip-long}
 use Rattle.std.specs.List.{All, AllZip}

@@ -1,5 +1,5 @@
 -- Segments have one drawing, or one reason why they have none, and not both.
-use Rattle.std.proofs.Common.{◌≡◌, ◌⊎◌, ◌∙◌, ◌<◌, ◌≤◌, ap, arith, inl, inr, refl, subst, sym}
+use Rattle.std.proofs.Common.{◌≡◌, ◌∙◌, ◌<◌, ◌≤◌, ap, arith, inl, inr, refl, subst, sym}
 use Prim.Native.Nat.{ℕ, zero, suc}
 use Rattle.std.specs.Cmp.{IsTotalOrder}
 use Rattle.std.proofs.lemmas.Cmp.{nat_cmp_total, nat_list_cmp_total, on_total, then_total}
@@ -28,14 +28,13 @@ use Rattle.scaled_plane.specs.declared.point.Pair.{Pair}
 use Rattle.scaled_plane.specs.declared.point.Scaled.{Scaled}
 use Rattle.scaled_plane.specs.declared.point.Segment.{Segment}
 use Rattle.scaled_plane.specs.Exact.{IsExactPoint, IsTooWideExact}
-use Rattle.scaled_plane.specs.Lists.{IsListOf}
-use Rattle.scaled_plane.specs.Pieces.{ArePieces, AreVertices, IsPieceEdge, edge_order, point_at}
+use Rattle.scaled_plane.specs.Pieces.{ArePieces, AreVertices, IsPieceEdge, edge_order}
 use Rattle.scaled_plane.specs.Scaling.{IsFirstOf, IsScaledOf, IsTooWide}
 use Rattle.scaled_plane.specs.Walks.{AreFaces, AreJoined, IsFaceWalk, IsFirstParted}
 use Rattle.arrangement.proofs.Zipped.{in_of_place}
 use Rattle.std.proofs.lemmas.Int.{ints}
 use Rattle.drawing_repair.specs.Kept.{kept_segments}
-use Rattle.drawing_repair.specs.Repaired.{AreCut, AreDrawn, AreExact, IsRefusal, IsRepaired, IsWideDrawn, MatchFaces}
+use Rattle.drawing_repair.specs.Repaired.{AreCut, AreDrawn, AreExact, AreFacesOf, IsRefusal, IsRepaired, IsWideDrawn}
 use Rattle.drawing_repair.specs.declared.answer.Repaired.{Repaired}
 use Rattle.drawing_repair.specs.declared.answer.RepairFault.{RepairFault}
 use Rattle.drawing_repair.specs.declared.answer.RepairFault.TheVariants.{TooWide, TooMany, Parted, Memory}
@@ -114,7 +113,7 @@ module _ {A : Type 0} (K : OrderedRing A) where
       (λ f h. face_walk_alike K edges vertices others alike f.corners h) (λ f h. face_walk_alike K edges others vertices (alike_turned K vertices others alike) f.corners h) all also)
 
   one_found : (faces : Faces) (edges : List Edge) (vertices others : List (Point A)) (found more : Option (List Face)) → AreAlike K vertices others
-      → MatchFaces faces found (IsConnected K vertices edges) (AreFaces K vertices edges) → MatchFaces faces more (IsConnected K others edges) (AreFaces K others edges) → found ≡ more
+      → AreFacesOf K vertices edges faces found → AreFacesOf K others edges faces more → found ≡ more
   one_found Skip edges vertices others None None alike h j = refl
   one_found Skip edges vertices others None (Some more) alike h j = absurd j
   one_found Skip edges vertices others (Some found) more alike h j = absurd h
@@ -206,7 +205,7 @@ module _ {N W : Type 0} {k j : ℕ} {surd : W → Surd ℤ} (parts : N → Parts
       let drawn : a.ends ≡ b.ends = one_drawn h.0 i.0 h.1 i.1 a.ends b.ends h.2 i.2 in
       let found : a.faces ≡ b.faces
       = one_found numbers.ring faces a.ends.edges h.1 i.1 a.faces b.faces (alike h.0 i.0 h.1 i.1 h.2.cut i.2.cut) h.3
-      (subst (λ (edges : List Edge). MatchFaces faces b.faces (IsConnected numbers.ring i.1 edges) (AreFaces numbers.ring i.1 edges)) (sym (ap (λ (e : Ends N). e.edges) drawn)) i.3) in
+      (subst (λ (edges : List Edge). AreFacesOf numbers.ring i.1 edges faces b.faces) (sym (ap (λ (e : Ends N). e.edges) drawn)) i.3) in
       λ t. record { ends = drawn t; faces = found t }
 
   -- ---- reasons that exclude each other
@@ -287,17 +286,17 @@ module _ {N W : Type 0} {k j : ℕ} {surd : W → Surd ℤ} (parts : N → Parts
   one_reason faces (Parted u) (Memory error) h i = absurd i
   one_reason faces (Memory error) f h i = absurd h
 
-  connected : (faces : Faces) (found : Option (List Face)) (P : Type 0) (Q : List Face → Type 0) → faces ≡ Find → MatchFaces faces found P Q → P
-  connected Skip found P Q e h = absurd (cc)
-  connected Find None P Q e h = absurd h
-  connected Find (Some found) P Q e h = h.0
+  connected : (faces : Faces) (vertices : List (Point W)) (edges : List Edge) (found : Option (List Face)) → faces ≡ Find → AreFacesOf numbers.ring vertices edges faces found → IsConnected numbers.ring vertices edges
+  connected Skip vertices edges found e h = absurd (cc)
+  connected Find vertices edges None e h = absurd h
+  connected Find vertices edges (Some found) e h = h.0
 
   pub not_both : (faces : Faces) (a : Repaired N) (f : RepairFault) → IsRepaired parts numbers flat ends faces a → IsReason faces f → ⊥
   not_both faces a (TooWide v Input) h i = input_or_scaled v i h.0 h.2.cut.points
   not_both faces a (TooWide v Drawn) h i = wide_or_drawn v i h.0 h.1 a.ends h.2
   not_both faces a TooMany h i = many_or_few i h.0 h.1 h.2.cut h.2.few
   not_both faces a (Parted v) h i =
-      let joined : IsConnected numbers.ring h.1 a.ends.edges = connected faces a.faces _ _ i.3 h.3 in
+      let joined : IsConnected numbers.ring h.1 a.ends.edges = connected faces h.1 a.ends.edges a.faces i.3 h.3 in
       let drawn : i.2 ≡ a.ends = one_drawn i.0 h.0 i.1 h.1 i.2 a.ends i.4 h.2 in
       let long : length i.1 ≡ length h.1 = (alike i.0 h.0 i.1 h.1 i.4.cut h.2.cut).long in
       i.5.parted (subst (λ (drawn : Ends N). AreJoined drawn.edges 0 v) (sym drawn) (joined v (subst (λ (n : ℕ). v < n) long i.5.in_range)))

@@ -1,27 +1,26 @@
 -- Coordinates are scaled in one way, or are too wide at one vertex, and not both.
 use Rattle.std.proofs.Common.{◌≡◌, ◌⊎◌, ◌∙◌, ◌<◌, ◌≤◌, ◌^◌, ap, arith, inl, inr, refl, subst, sym}
-use Prim.Native.Nat.{ℕ, zero, suc, ◌%◌, ◌/◌, ◌*◌, ◌∣◌}
+use Prim.Native.Nat.{ℕ, zero, suc, ◌%◌, ◌/◌, ◌*◌}
 use Rattle.std.proofs.Math.Nat.{le_of_dvd, mod-lt}
 use Rattle.std.proofs.lemmas.Int.{ints}
 use Rattle.std.proofs.lemmas.Nat.Gcd.{IsGcd-from_mod, IsGcd-from_zero}
 use Rattle.std.specs.Int.{IsGcd}
 use Rattle.std.specs.List.{AllZip}
-use Rattle.std.specs.Prelude.{ℤ, pos, ◌<ℤ◌, List, [], ◌∷◌, Contains, length, slice_get, slice_index_or, Some, take, unsigned_abs}
+use Rattle.std.specs.Prelude.{ℤ, pos, ◌<ℤ◌, List, [], ◌∷◌, Contains, length, slice_index_or, take, unsigned_abs}
 use Rattle.algebra.specs.LowestTerms.{Parts}
 use Rattle.algebra.specs.NumberField.{HoldsNumbers}
 use Rattle.algebra.specs.Surd.{Surd}
 use Rattle.algebra.specs.SurdSize.{larger_part}
 use Rattle.algebra.specs.WholeSurds.{HoldsSurds, SurdNumbers}
-use Rattle.exact_number.specs.Scaling.{scaled}
 use Rattle.plane.specs.declared.point.Point.{Point}
 use Rattle.plane.proofs.Lines.{same_vector}
 use Rattle.plane.proofs.Members.{in_cons, in_head, in_nil, in_tail}
 use Rattle.scaled_plane.specs.declared.point.Pair.{Pair}
 use Rattle.scaled_plane.specs.declared.point.Scaled.{Scaled}
 use Rattle.scaled_plane.specs.Multiples.{IsLeastMultiple}
-use Rattle.scaled_plane.specs.Scaling.{DividesMultiples, IsFirstOf, IsMultipleOf, IsScaledOf, IsScaledWith, IsTooWide, IsWideAt}
+use Rattle.scaled_plane.specs.Scaling.{DividesMultiples, IsFirstOf, IsScaledOf, IsScaledWith, IsTooWide}
 use Rattle.scaled_plane.proofs.Denominators.{divides_none, divides_pair, divides_taken, not_passing}
-use Rattle.scaled_plane.proofs.Multiples.{gcd_positive, least_multiple, multiple_of_first, multiple_of_second, multiple_positive}
+use Rattle.scaled_plane.proofs.Multiples.{least_multiple, multiple_of_first, multiple_of_second, multiple_positive}
 use Rattle.scaled_plane.proofs.Widths.{one_denominator}
 use Rattle.arrangement.proofs.Zipped.{in_of_place, of_first}
 

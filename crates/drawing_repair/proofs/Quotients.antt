@@ -1,5 +1,5 @@
 -- A quotient of numbers a + b√k is one number in lowest terms.
-use Rattle.std.proofs.Common.{◌≡◌, ◌∙◌, ℕ, ap, refl, subst, sym}
+use Rattle.std.proofs.Common.{◌≡◌, ◌∙◌, ℕ, ap, subst, sym}
 use Rattle.std.specs.Prelude.{ℤ, pos, ◌+ℤ◌, ◌*ℤ◌, ◌<ℤ◌}
 use mathlib.Core.List.{[], ◌∷◌}
 use Rattle.std.specs.declared.cmp.Ordering.TheVariants.{Equal, Greater}

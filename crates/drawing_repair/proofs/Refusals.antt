@@ -1,5 +1,5 @@
 -- What the faults of the steps become, and when they come.
-use Rattle.std.proofs.Common.{◌≡◌, ◌⊎◌, ℕ, ap, inl, inr, refl}
+use Rattle.std.proofs.Common.{◌≡◌, ◌⊎◌, ℕ, inl, inr, refl}
 use Rattle.scaled_plane.specs.declared.scaled.ScaleFault.{ScaleFault}
 use Rattle.scaled_plane.specs.declared.scaled.ScaleFault.TheVariants as scaling
 use Rattle.arrangement.specs.declared.fault.PieceFault.{PieceFault}
@@ -9,7 +9,7 @@ use Rattle.face_walks.specs.declared.answer.WalkFault.TheVariants as walking
 use Rattle.drawing_repair.specs.Faults.{of_cutting, of_scaling, of_walking}
 use Rattle.drawing_repair.specs.Repaired.{IsMemory}
 use Rattle.drawing_repair.specs.declared.answer.RepairFault.{RepairFault}
-use Rattle.drawing_repair.specs.declared.answer.RepairFault.TheVariants.{TooWide, TooMany, Parted, Memory}
+use Rattle.drawing_repair.specs.declared.answer.RepairFault.TheVariants.{TooWide, TooMany, Parted}
 use Rattle.drawing_repair.specs.declared.answer.Stage.TheVariants.{Input}
 
 pub after_scaling : (fault : ScaleFault) (P : ℕ → Type 0) (Q : RepairFault → Type 0) → ((v : ℕ) → fault ≡ scaling.TooWide v → P v)

@@ -1,22 +1,20 @@
 -- Lists that have the same points, as vectors that may differ: the pieces and the walks between them are the same.
-use Rattle.std.proofs.Common.{◌≡◌, ◌⊎◌, ◌∙◌, ◌<◌, ap, arith, inl, inr, refl, subst, sym}
+use Rattle.std.proofs.Common.{◌≡◌, ◌∙◌, ◌<◌, ap, arith, subst, sym}
 use Prim.Native.Nat.{ℕ, zero, suc}
-use Rattle.std.proofs.lemmas.Slice.Zip.{AllZip-long}
 use Rattle.std.specs.List.{AllZip}
-use Rattle.std.specs.Prelude.{List, [], ◌∷◌, Contains, length, pos, negsuc, slice_index_or, ◌↔◌}
-use Rattle.std.specs.declared.cmp.Ordering.TheVariants.{Less, Equal, Greater}
-use Rattle.fold_base.specs.declared.letter.Letter.{Letter}
+use Rattle.std.specs.Prelude.{List, [], ◌∷◌, length, slice_index_or}
+use Rattle.std.specs.declared.cmp.Ordering.TheVariants.{Greater}
 use Rattle.algebra.specs.OrderedRing.{OrderedRing}
-use Rattle.algebra.proofs.Solvers.{multiple, no_equation, reads, ring, ring_from, sign_of_multiple, sign_from, known, no_sign, positive, given, product}
+use Rattle.algebra.proofs.Solvers.{multiple, no_equation, reads, ring_from, sign_of_multiple}
 use Rattle.plane.specs.declared.point.Point.{Point}
-use Rattle.plane.specs.Points.{IsPoint, IsSamePoint, combination, multiple_of, origin, point_order}
+use Rattle.plane.specs.Points.{IsPoint, IsSamePoint}
 use Rattle.plane.specs.Segments.{IsBetween}
-use Rattle.plane.proofs.Lines.{same_refl, same_turned, same_vector}
+use Rattle.plane.proofs.Lines.{same_turned, same_vector}
 use Rattle.plane.proofs.Order.{order_same, order_same_right}
 use Rattle.plane.proofs.Shares.{on_same}
 use Rattle.scaled_plane.specs.declared.drawing.Edge.{Edge}
 use Rattle.scaled_plane.specs.declared.point.Segment.{Segment}
-use Rattle.scaled_plane.specs.Pieces.{AreVertices, Covers, CoversWith, IsMerged, IsPiece, IsPieceEdge, IsVertex, point_at}
+use Rattle.scaled_plane.specs.Pieces.{AreVertices, Covers, CoversWith, IsPieceEdge, point_at}
 use Rattle.arrangement.proofs.Merging.{merged_moved}
 use Rattle.arrangement.proofs.Places.{at_there}
 

@@ -1,17 +1,16 @@
 -- The walks of an edges' drawing are the same through lists of the same points.
-use Rattle.std.proofs.Common.{◌≡◌, ◌⊎◌, ◌∙◌, ◌<◌, ap, inl, inr, refl, subst, sym}
+use Rattle.std.proofs.Common.{◌≡◌, ◌∙◌, ◌<◌, ap, inl, inr, refl, subst, sym}
 use Prim.Native.Nat.{ℕ}
-use Rattle.std.specs.Prelude.{List, [], ◌∷◌, ◌++◌, Contains, length, pos}
-use Rattle.std.specs.declared.cmp.Ordering.TheVariants.{Less, Greater}
+use Rattle.std.specs.Prelude.{List, [], ◌∷◌, ◌++◌, pos}
+use Rattle.std.specs.declared.cmp.Ordering.TheVariants.{Greater}
 use Rattle.algebra.specs.OrderedRing.{OrderedRing}
-use Rattle.algebra.proofs.Solvers.{multiple, no_equation, reads, ring, ring_from, sign_of_multiple}
+use Rattle.algebra.proofs.Solvers.{multiple, no_equation, reads, ring_from, sign_of_multiple}
 use Rattle.plane.specs.declared.point.Point.{Point}
 use Rattle.plane.specs.Directions.{Direction, IsClockwise, direction, turn, west}
-use Rattle.plane.specs.Points.{IsPoint, IsSamePoint, point_order}
+use Rattle.plane.specs.Points.{IsPoint, IsSamePoint}
 use Rattle.plane.proofs.Order.{order_same, order_same_right}
 use Rattle.scaled_plane.specs.declared.drawing.Edge.{Edge}
-use Rattle.scaled_plane.specs.Pieces.{point_at}
-use Rattle.scaled_plane.specs.Walks.{ComesAfter, FollowOn, FollowRound, Follows, HasOutside, IsDirectedPiece, IsFaceWalk, IsFirstClockwise, IsOutside, IsWalk, pieces_round, way}
+use Rattle.scaled_plane.specs.Walks.{ComesAfter, FollowOn, FollowRound, Follows, HasOutside, IsFaceWalk, IsFirstClockwise, IsOutside, IsWalk, pieces_round, way}
 use Rattle.drawing_repair.proofs.SamePoints.{AreAlike, alike_turned}
 
 module _ {A : Type 0} (K : OrderedRing A) where

@@ -1,14 +1,14 @@
 -- The drawing of segments: its vertices by exact coordinates, the pieces between them, and its
 -- faces; and what keeps segments from having one.
-use Rattle.std.specs.Prelude.{◌≡◌, ◌⊎◌, ℕ, ℤ, ◌<◌, ◌≤◌, List, length, slice_get, Some, None}
+use Rattle.std.specs.Prelude.{◌≡◌, ℕ, ℤ, ◌<◌, ◌≤◌, List, length, slice_get, Some, None}
 use Rattle.std.specs.List.{AllZip}
 use Rattle.std.specs.declared.alloc.AllocError.{AllocError}
 use Rattle.std.specs.declared.option.Option.{Option}
 use Rattle.algebra.specs.LowestTerms.{Parts}
+use Rattle.algebra.specs.OrderedRing.{OrderedRing}
 use Rattle.algebra.specs.Surd.{Surd}
 use Rattle.algebra.specs.WholeSurds.{SurdNumbers}
 use Rattle.plane.specs.declared.point.Point.{Point}
-use Rattle.scaled_plane.specs.declared.drawing.Drawing.{Drawing}
 use Rattle.scaled_plane.specs.declared.drawing.Edge.{Edge}
 use Rattle.scaled_plane.specs.declared.drawing.Ends.{Ends}
 use Rattle.scaled_plane.specs.declared.drawing.Face.{Face}
@@ -16,7 +16,6 @@ use Rattle.scaled_plane.specs.declared.point.Pair.{Pair}
 use Rattle.scaled_plane.specs.declared.point.Scaled.{Scaled}
 use Rattle.scaled_plane.specs.Exact.{IsExactPoint, IsTooWideExact}
 use Rattle.scaled_plane.specs.Pieces.{ArePieces, AreVertices}
-use Rattle.scaled_plane.specs.WellSet.{IsWellSet}
 use Rattle.scaled_plane.specs.Scaling.{IsFirstOf, IsScaledOf, IsTooWide}
 use Rattle.scaled_plane.specs.Walks.{AreFaces, IsFirstParted}
 use Rattle.regions.specs.Faces.{AreBoundedRegions, IsConnected}
@@ -42,25 +41,19 @@ module _ {W : Type 0} {k : ℕ} {surd : W → Surd ℤ} (numbers : SurdNumbers k
   abbrev pub IsWideDrawn : ℕ → Type 0
   IsWideDrawn v = (p : Point W) × (slice_get points v ≡ Some p) × IsTooWideExact k surd p common
 
--- none were looked for, and there are none; or they were, and P holds and Q of those that are there
-abbrev pub MatchFaces : Faces → Option (List Face) → Type 0 → (List Face → Type 0) → Type 0
-MatchFaces Skip None P Q = Unit {0}
-MatchFaces Skip (Some found) P Q = ⊥
-MatchFaces Find None P Q = ⊥
-MatchFaces Find (Some found) P Q = P × Q found
+module _ {W : Type 0} (K : OrderedRing W) (vertices : List (Point W)) (edges : List Edge) where
+  -- the face walks of a drawing that isn't parted, where they are looked for, and else none
+  abbrev pub AreFacesOf : Faces → Option (List Face) → Type 0
+  AreFacesOf Find (Some found) = IsConnected K vertices edges × AreFaces K vertices edges found
+  AreFacesOf Find None = ⊥
+  AreFacesOf Skip (Some found) = ⊥
+  AreFacesOf Skip None = Unit {0}
 
 module _ {N W : Type 0} {k : ℕ} {surd : W → Surd ℤ} (parts : N → Parts) (numbers : SurdNumbers k surd) (flat : Flat) (ends : Ends N) where
   -- all coordinates times their common denominator, and the vertices of the segments that are kept
   pub record AreCut (scaled : Scaled W) (vertices : List (Point W)) : Type 0 where
     pub points : IsScaledOf parts numbers ends.coords scaled
     pub cuts : AreVertices numbers.ring (kept_segments numbers.ring scaled.points flat ends.edges) vertices
-
-  -- the segments that are kept are cut into the vertices and pieces of this drawing
-  pub record AreCutInto (scaled : Scaled W) (drawing : Drawing W) : Type 0 where
-    pub cut : AreCut scaled drawing.vertices
-    pub few : length drawing.vertices ≤ 16384
-    pub pieces : ArePieces numbers.ring (kept_segments numbers.ring scaled.points flat ends.edges) drawing.vertices drawing.edges
-    pub well_set : IsWellSet numbers drawing
 
   -- the vertices, which aren't too many, by their exact coordinates, and the pieces between them
   -- with their letters
@@ -71,15 +64,10 @@ module _ {N W : Type 0} {k : ℕ} {surd : W → Surd ℤ} (parts : N → Parts) 
     pub pieces : ArePieces numbers.ring (kept_segments numbers.ring scaled.points flat ends.edges) vertices drawn.edges
 
   module _ (faces : Faces) where
-    -- the face walks of a drawing that isn't parted, where they are looked for, and else none
-    abbrev pub AreFacesOf : List (Point W) → List Edge → Option (List Face) → Type 0
-    AreFacesOf vertices edges found = MatchFaces faces found
-        (IsConnected numbers.ring vertices edges) (AreFaces numbers.ring vertices edges)
-
     -- the answer is the drawing of the segments that are kept, with its faces
     abbrev pub IsRepaired : Repaired N → Type 0
     IsRepaired answer = (scaled : Scaled W) × (vertices : List (Point W))
-        × AreDrawn scaled vertices answer.ends × AreFacesOf vertices answer.ends.edges answer.faces
+        × AreDrawn scaled vertices answer.ends × AreFacesOf numbers.ring vertices answer.ends.edges faces answer.faces
 
     -- why there is no answer: the first of these that holds
     abbrev pub IsRefusal : RepairFault → Type 0

@@ -25,6 +25,7 @@ pub fn exact_points<N: Exact>(
     ensures coords { IfOk result (AreExact N.parts N.Ring.numbers points.now common) }
     ensures too_wide { IfErr result (λ e. IsMemory e ⊎ ((v : ℕ) × (e ≡ RepairFault.TooWide v Drawn)
         × IsFirstOf (IsWideDrawn N.Ring.numbers points.now common) v)) }
+    ensures rational { N.ROOT ≡ 1 → IfErr result IsMemory }
 {
     let mut coords = List::with_room(alloc, points.len())?;
     for vertex in 0..points.len() {

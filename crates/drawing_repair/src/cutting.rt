@@ -5,7 +5,9 @@ ghost use Rattle.scaled_plane.specs.Drawn.{IsScaledSegment};
 ghost use Rattle.scaled_plane.specs.Pieces.{ArePieces, AreVertices};
 ghost use Rattle.scaled_plane.specs.WellSet.{IsWellSet};
 ghost use Rattle.drawing_repair.specs.Kept.{AreInRange};
-ghost use Rattle.drawing_repair.specs.Repaired.{AreCutInto, IsMemory, IsRefusal};
+ghost use Rattle.drawing_repair.specs.Cutting.{AreCutInto};
+ghost use Rattle.drawing_repair.specs.Repaired.{IsMemory, IsRefusal};
+ghost use Rattle.drawing_repair.specs.declared.answer.Stage.TheVariants.{Drawn};
 ghost use Rattle.drawing_repair.specs.declared.options.Faces.{Faces as AnyFaces};
 
 use crate::answer::RepairFault;
@@ -51,6 +53,7 @@ pub fn cut_ends<N: Exact>(
     requires in_range { AreInRange ends.now.coords ends.now.edges }
     ensures cut { IfOk result (λ r. AreCutInto N.parts N.Ring.numbers flat ends.now r.0 r.1) }
     ensures refused { IfErr result (λ e. IsMemory e ⊎ ((faces : AnyFaces) → IsRefusal N.parts N.Ring.numbers flat ends.now faces e)) }
+    ensures not_drawn { IfErr result (λ e. (v : ℕ) → ¬ (e ≡ RepairFault.TooWide v Drawn)) }
 {
     let scaled = scale_all(alloc, &ends.coords)?;
     let segments = segments_kept(alloc, scaled.points.as_slice(), ends.edges.as_slice(), flat)?;

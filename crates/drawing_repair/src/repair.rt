@@ -1,10 +1,11 @@
 ghost use Rattle.std.specs.Prelude.{◌≡◌, ◌⊎◌, ℕ, ◌<◌, ◌^◌, Some, length, IfOk, IfErr, List as Listed};
-ghost use Rattle.regions.specs.Faces.{AreBoundedRegions, IsConnected};
+ghost use Rattle.regions.specs.Faces.{AreBoundedRegions};
 ghost use Rattle.scaled_plane.specs.declared.drawing.Face.{Face as AnyFace};
-ghost use Rattle.scaled_plane.specs.Walks.{AreFaces, IsFirstParted};
+ghost use Rattle.scaled_plane.specs.Walks.{IsFirstParted};
 ghost use Rattle.scaled_plane.specs.WellSet.{IsWellSet};
 ghost use Rattle.drawing_repair.specs.Kept.{AreInRange};
-ghost use Rattle.drawing_repair.specs.Repaired.{HasBoundedRegions, IsMemory, IsRefusal, IsRepaired, MatchFaces};
+ghost use Rattle.drawing_repair.specs.Repaired.{AreFacesOf, HasBoundedRegions, IsMemory, IsRefusal, IsRepaired};
+ghost use Rattle.drawing_repair.specs.declared.answer.Stage.TheVariants.{Drawn};
 ghost use Rattle.drawing_repair.specs.declared.options.Faces.TheVariants.{Find};
 
 use crate::answer::{RepairFault, Repaired};
@@ -24,9 +25,7 @@ fn faces_of<W: Whole>(
     faces: Faces,
 ) -> Result<Option<List<Face>>, RepairFault>
     requires { IsWellSet W.numbers drawing.now }
-    ensures faces { IfOk result (λ found. MatchFaces faces found
-        (IsConnected W.numbers.ring drawing.now.vertices drawing.now.edges)
-        (AreFaces W.numbers.ring drawing.now.vertices drawing.now.edges)) }
+    ensures faces { IfOk result (AreFacesOf W.numbers.ring drawing.now.vertices drawing.now.edges faces) }
     ensures regions { IfOk result (λ found. (listed : Listed AnyFace) → found ≡ Some listed
         → AreBoundedRegions W.numbers.ring drawing.now.vertices drawing.now.edges listed) }
     ensures parted { IfErr result (λ e. IsMemory e ⊎ ((v : ℕ) × (e ≡ RepairFault.Parted v) × (faces ≡ Find)
@@ -58,6 +57,7 @@ pub fn repair_ends<N: Exact>(
     // the first reason that holds why there is no drawing, or want of memory
     ensures refused { IfErr result (λ e. IsMemory e ⊎ IsRefusal N.parts N.Ring.numbers flat ends.now faces e) }
     ensures regions { IfOk result (HasBoundedRegions N.parts N.Ring.numbers flat ends.now faces) }
+    ensures rational { N.ROOT ≡ 1 → IfErr result (λ e. (v : ℕ) → ¬ (e ≡ RepairFault.TooWide v Drawn)) }
 {
     let (scaled, drawing) = cut_ends(alloc, ends, flat)?;
     let coords = exact_points(alloc, drawing.vertices.as_slice(), scaled.common)?;

@@ -1,10 +1,9 @@
-use Rattle.std.proofs.Common.{◌≡◌, ◌<◌, List, ℕ, length, subst, sym}
+use Rattle.std.proofs.Common.{◌≡◌, ◌<◌, List, length, subst, sym}
 use Rattle.std.proofs.lemmas.Result.{err_from_is_err_and}
 use Rattle.std.specs.Prelude.{Contains}
 use Rattle.plane.specs.declared.point.Point.{Point}
 use Rattle.scaled_plane.specs.declared.drawing.Edge.{Edge}
 use Rattle.scaled_plane.specs.declared.point.Segment.{Segment}
-use Rattle.scaled_plane.specs.Drawn.{IsScaledSegment}
 use Rattle.scaled_plane.specs.Pieces.{AreVertices}
 use Rattle.scaled_plane.specs.Scaling.{IsTooWide}
 use Rattle.drawing_repair.specs.Kept.{AreInRange, kept_segments}

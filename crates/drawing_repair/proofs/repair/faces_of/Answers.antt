@@ -1,7 +1,6 @@
 use Rattle.std.proofs.Common.{◌≡◌, ℕ, length, refl}
 use Rattle.std.proofs.lemmas.Result.{err_from_is_err_and}
 use Rattle.scaled_plane.specs.Walks.{IsFirstParted}
-use Rattle.drawing_repair.specs.declared.answer.RepairFault.{RepairFault}
 use Rattle.drawing_repair.specs.declared.answer.RepairFault.TheVariants.{Parted}
 use Rattle.drawing_repair.specs.declared.options.Faces.TheVariants.{Find}
 use Rattle.drawing_repair.proofs.Refusals.{after_walking}

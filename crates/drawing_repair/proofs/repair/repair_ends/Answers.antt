@@ -1,4 +1,4 @@
-use Rattle.std.proofs.Common.{◌≡◌, ℕ, ℤ, List, inl, inr, length, of_z, rules, subst, sym, to_z}
+use Rattle.std.proofs.Common.{ℤ, List, inl, inr, of_z, rules, subst, sym, to_z}
 use Rattle.std.specs.Int.{w128}
 use Rattle.std.proofs.lemmas.Int.{to_z-of_z}
 use Rattle.std.proofs.lemmas.Result.{err_from_is_err_and}
@@ -6,7 +6,7 @@ use Rattle.std.specs.Prelude.{Contains}
 use Rattle.plane.specs.declared.point.Point.{Point}
 use Rattle.scaled_plane.specs.Drawn.{IsDrawn}
 use Rattle.scaled_plane.specs.Scaling.{IsFirstOf}
-use Rattle.drawing_repair.specs.Repaired.{AreExact, IsRefusal, IsWideDrawn}
+use Rattle.drawing_repair.specs.Repaired.{IsRefusal, IsWideDrawn}
 use Rattle.drawing_repair.proofs.Exact.{drawn_coords}
 use Rattle.drawing_repair.proofs.repair.repair_ends.Goals as goal
 
