@@ -107,12 +107,12 @@ either : (t : Bool) (m n k : ℕ) → m ≤ k → n ≤ k → (if t then m else 
 either true m n k h j = h
 either false m n k h j = j
 
-count_within : (text : List ℕ) → count_digits text ≤ length text
+pub count_within : (text : List ℕ) → count_digits text ≤ length text
 count_within [] = omega arith
 count_within (b ∷ text) =
     let rest = count_within text in either (is_ascii_digit b) (1 + count_digits text) (count_digits text) (suc (length text)) (omega (arith, rest)) (omega (arith, rest))
 
-places_within : (text : List ℕ) → places text ≤ length text
+pub places_within : (text : List ℕ) → places text ≤ length text
 places_within [] = omega arith
 places_within (b ∷ text) =
     let count = count_within text in
@@ -136,7 +136,7 @@ digits_below n (b ∷ text) =
     let more = grown (is_ascii_digit b) n b (count_digits text) (digit_below_ten b) in
     omega (arith, rest, more)
 
-spelled_below : (text : List ℕ) → spelled text < 10 ^ count_digits text
+pub spelled_below : (text : List ℕ) → spelled text < 10 ^ count_digits text
 spelled_below text = let most = digits_below 0 text in subst (λ n. spelled text < n) (one-mul (10 ^ count_digits text)) most
 
 -- ---- past the cap

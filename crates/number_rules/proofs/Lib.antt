@@ -14,3 +14,6 @@ mod Nines
 mod NineTexts
 mod NineValues
 mod Tolerance
+mod OneDecimal
+mod OneReading
+mod Counts

@@ -13,7 +13,7 @@ use Rattle.number_rules.specs.Value.{with_sign}
 use Rattle.number_rules.specs.declared.decimal.Decimal.{Decimal}
 use Rattle.number_rules.proofs.Rounding.{signed_product}
 
-split : (a b : ℕ) → (above_zero (pos a -ℤ pos b) + min a b ≡ a) × (below_zero (pos a -ℤ pos b) + min a b ≡ b)
+pub split : (a b : ℕ) → (above_zero (pos a -ℤ pos b) + min a b ≡ a) × (below_zero (pos a -ℤ pos b) + min a b ≡ b)
 split a b = elim (cases_lt a b) [
   | inl less ↦
       let e : pos a -ℤ pos b ≡ negsuc (b - a - 1) = omega (arith, ints, less) in

@@ -86,15 +86,15 @@ times_at_least n p most h one = le_trans h (le-mul_of_pos_right n one)
 at_most : (n most : ℕ) → most ≤ n → min n most ≡ most
 at_most n most h = omega (arith, h)
 
-kept_zeros : (whole kept left : ℕ) → kept ≡ min whole cap → min (kept * 10 ^ min left 37) cap ≡ min (whole * 10 ^ left) cap
-kept_zeros whole kept left k = elim (cases_lt 37 left) [
-  | inr few ↦ subst (λ m. min (kept * 10 ^ m) cap ≡ min (whole * 10 ^ left) cap) (sym (least left 37 few)) (elim (cases_lt whole cap) [
+pub kept_zeros : (whole kept left : ℕ) → kept ≡ min whole cap → min (kept * 10 ^ min left 38) cap ≡ min (whole * 10 ^ left) cap
+kept_zeros whole kept left k = elim (cases_lt 38 left) [
+  | inr few ↦ subst (λ m. min (kept * 10 ^ m) cap ≡ min (whole * 10 ^ left) cap) (sym (least left 38 few)) (elim (cases_lt whole cap) [
     | inl small ↦ ap (λ w. min (w * 10 ^ left) cap) (k ∙ least whole cap (omega (arith, small)))
     | inr large ↦
         at_most (kept * 10 ^ left) cap (times_at_least kept (10 ^ left) cap (subst (λ w. cap ≤ w) (sym (k ∙ at_most whole cap large)) (le_refl cap)) (one-le-pow left 10 (omega arith)))
         ∙ sym (at_most (whole * 10 ^ left) cap (times_at_least whole (10 ^ left) cap large (one-le-pow left 10 (omega arith))))
   ])
-  | inl many ↦ subst (λ m. min (kept * 10 ^ m) cap ≡ min (whole * 10 ^ left) cap) (sym (at_most left 37 (omega (arith, many)))) (of_many whole k many)
+  | inl many ↦ subst (λ m. min (kept * 10 ^ m) cap ≡ min (whole * 10 ^ left) cap) (sym (at_most left 38 (omega (arith, many)))) (of_many whole k many)
 ]
   where
     least : (s c : ℕ) → s ≤ c → min s c ≡ s
@@ -106,17 +106,17 @@ kept_zeros whole kept left k = elim (cases_lt 37 left) [
       | inr h ↦ subst (λ n. 1 ≤ n) (sym (at_most (suc w) cap h)) (lit≤ tt)
     ]
 
-    of_many : (whole : ℕ) → kept ≡ min whole cap → 37 < left → min (kept * 10 ^ 37) cap ≡ min (whole * 10 ^ left) cap
+    of_many : (whole : ℕ) → kept ≡ min whole cap → 38 < left → min (kept * 10 ^ 38) cap ≡ min (whole * 10 ^ left) cap
     of_many zero k many =
         let none : kept ≡ 0 = k ∙ least 0 cap (omega arith) in
-        ap (λ w. min (w * 10 ^ 37) cap) none ∙ ap (λ n. min n cap) (zero-mul (10 ^ 37) ∙ sym (zero-mul (10 ^ left)))
+        ap (λ w. min (w * 10 ^ 38) cap) none ∙ ap (λ n. min n cap) (zero-mul (10 ^ 38) ∙ sym (zero-mul (10 ^ left)))
     of_many (suc w) k many =
         let some : 1 ≤ kept = subst (λ n. 1 ≤ n) (sym k) (positive w) in
-        at_most (kept * 10 ^ 37) cap (subst (λ n. cap ≤ n) (mul_comm cap kept) (times_at_least cap kept cap (le_refl cap) some))
-        ∙ sym (at_most (suc w * 10 ^ left) cap (subst (λ n. cap ≤ n) (mul_comm (10 ^ left) (suc w)) (times_at_least (10 ^ left) (suc w) cap (pow-le-pow_right {n = 10} (omega arith) {i = 37} {j = left} (omega (arith, many))) (omega arith))))
+        at_most (kept * 10 ^ 38) cap (subst (λ n. cap ≤ n) (mul_comm cap kept) (times_at_least cap kept cap (le_refl cap) some))
+        ∙ sym (at_most (suc w * 10 ^ left) cap (subst (λ n. cap ≤ n) (mul_comm (10 ^ left) (suc w)) (times_at_least (10 ^ left) (suc w) cap (pow-le-pow_right {n = 10} (omega arith) {i = 38} {j = left} (omega (arith, many))) (omega arith))))
 
 -- with the zeros, a number is so many whole steps and the same rest
-finished : (n whole rest : ℕ) (place : ℤ) (tail : Tail) → n ≡ whole * 10 ^ below_zero place + rest → IsTail rest (10 ^ below_zero place) tail
+pub finished : (n whole rest : ℕ) (place : ℤ) (tail : Tail) → n ≡ whole * 10 ^ below_zero place + rest → IsTail rest (10 ^ below_zero place) tail
     → n * 10 ^ above_zero place ≡ (whole * 10 ^ above_zero place) * 10 ^ below_zero place + rest
 finished n whole rest (pos left) tail e t =
     let none : rest ≡ 0 = (nothing_cut rest tail t).0 in
@@ -131,7 +131,7 @@ factored : (n whole p rest f : ℕ) → n ≡ whole * p + rest → n * f ≡ who
 factored n whole p rest f e = ap (λ m. m * f) e ∙ add-mul (whole * p) rest f ∙ ap (λ m. m + rest * f) (mul_assoc whole p f)
 
 pub decided : (n count : ℕ) (before : ℤ) (cut : Cut) (negative : Bool) (steps size : ℕ) (x : Decimal) → Shows n count before cut
-    → steps ≡ min (cut.whole * 10 ^ min cut.left 37) cap → size ≡ rounded negative cut.tail steps → Holds negative size (is_exact cut.tail) x
+    → steps ≡ min (cut.whole * 10 ^ min cut.left 38) cap → size ≡ rounded negative cut.tail steps → Holds negative size (is_exact cut.tail) x
     → (f : ℕ) → 0 < f → IsSteps (with_sign negative (n * 10 ^ above_zero (before -ℤ pos count) * f)) (10 ^ below_zero (before -ℤ pos count) * f) x
 decided n count before cut negative steps size x shows s z holds f some =
     let c = shows.whole in

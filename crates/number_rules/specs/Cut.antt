@@ -24,7 +24,7 @@ Stands rest d AboveHalf = (rest < d) × (d < 2 * rest)
 
 -- past every number of steps that is read
 abbrev pub cap : ℕ
-cap = 10 ^ 37
+cap = 10 ^ 38
 
 -- n is so many digits, with `behind` of them behind the point
 abbrev pub IsCut : ℕ → ℕ → ℕ → Tail → Type 0

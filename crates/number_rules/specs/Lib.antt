@@ -8,3 +8,5 @@ pub mod ExactText
 pub mod WholeText
 pub mod Nine
 pub mod Within
+pub mod OneReading
+pub mod Billionths

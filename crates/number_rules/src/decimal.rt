@@ -51,7 +51,7 @@ pub fn read_decimal(text: &NumberText) -> Decimal
     ensures readable { IsReadable result }
 {
     let (mantissa, exponent) = mantissa_and_exponent(text.bytes());
-    decimal_of_digits(mantissa, whole_digits(mantissa, exponent))
+    decimal_of_digits(mantissa, whole_digits(18, mantissa, exponent))
 }
 
 #[cfg(test)]

@@ -1,12 +1,16 @@
-ghost use Rattle.std.specs.Prelude.{◌≡◌, ℕ, ℤ, pos, ◌*ℤ◌, ◌<◌, ◌≤◌, ◌^◌, unsigned_abs, Result, Ok};
+ghost use Rattle.std.specs.Prelude.{◌≡◌, ℕ, ℤ, pos, ◌*ℤ◌, ◌<◌, ◌≤◌, ◌^◌, unsigned_abs, List, Result, Ok};
 ghost use Rattle.algebra.specs.Surd.{IsNonsquare};
 ghost use Rattle.algebra.specs.LowestTerms.{Parts, IsNumber};
 ghost use Rattle.algebra.specs.NumberField.{HoldsNumbers, IsRadicand};
 ghost use Rattle.json_tree.specs.Number.{IsNumber as IsNumberText};
 ghost use Rattle.number_rules.specs.ExactText.{exact_text_of, AreShort, ReadsExactText};
 ghost use Rattle.number_rules.specs.Nine.{IsNine, IsExactlyNine, nine_text};
+ghost use Rattle.number_rules.specs.OneReading.{IsRow, ReadsText};
+ghost use Rattle.number_rules.specs.Rounded.{IsDecimal};
 ghost use Rattle.number_rules.specs.Rows.{IsNear};
 ghost use Rattle.number_rules.specs.Value.{numerator, denominator};
+ghost use Rattle.number_rules.specs.declared.decimal.Decimal.{Decimal};
+ghost use Rattle.number_rules.specs.declared.unread.Row.{Row};
 ghost use Rattle.number_rules.specs.declared.unread.Unread.{Unread};
 
 /// For each b there's at most one a with which (a+b√k)/n is near enough to a decimal.
@@ -39,4 +43,19 @@ pub fn nine_texts()
         → numerator (nine_text m) *ℤ pos (10 ^ 9) ≡ m *ℤ pos (denominator (nine_text m)) }
     ensures short { (k : ℕ) (p : Parts) (m : ℤ) → IsRadicand k → k ≤ 3 → IsNumber k p → AreShort p → IsNine k p m
         → unsigned_abs m ≤ 2 ^ 125 }
+{}
+
+/// Each text has exactly one decimal.
+pub fn one_decimal()
+    ensures once { (text : List ℕ) (x y : Decimal) → IsDecimal text x → IsDecimal text y → x ≡ y }
+    ensures some { (text : List ℕ) → (x : Decimal) × IsDecimal text x }
+{}
+
+/// By a row of the table each text has exactly one answer, for texts of any length: a number, or the cause by which it's
+/// refused.
+pub fn one_answer<N>()
+    ensures once { (k : ℕ) (parts : N → Parts) (row : Row) → HoldsNumbers k parts → IsRow k row
+        → (text : List ℕ) (r s : Result N Unread) → ReadsText k parts row text r → ReadsText k parts row text s → r ≡ s }
+    ensures some { (k : ℕ) (parts : N → Parts) (row : Row) → HoldsNumbers k parts → IsRow k row
+        → (text : List ℕ) → (r : Result N Unread) × ReadsText k parts row text r }
 {}

@@ -1,6 +1,7 @@
 //! Decimal texts read as exact numbers, by a rule.
 #![tactic(auto)]
 
+mod billionths;
 mod cut;
 mod decimal;
 mod laws;
@@ -14,8 +15,11 @@ mod texts;
 mod unread;
 mod whole_text;
 
+pub use billionths::has_billionths;
 pub use decimal::{Decimal, read_decimal};
-pub use laws::{nine_texts, one_a_at_each_b, one_nine, texts_are_read_back};
+pub use laws::{
+    nine_texts, one_a_at_each_b, one_answer, one_decimal, one_nine, texts_are_read_back,
+};
 pub use nine::{Nine, round_to_nine};
 pub use nine_text::print9;
 pub use readers::{read_exact, read_grid, read_root_three, read_root_two};

@@ -1,5 +1,5 @@
 ghost use Rattle.std.specs.Prelude.{◌≡◌, ℕ, ℤ, pos, ◌+◌, ◌≤◌, length, take, drop, min, ◌-ℤ◌, ◌+ℤ◌};
-ghost use Rattle.number_rules.specs.Value.{mantissa, exponent, spelled, with_digit, count_digits, places, begins_with_minus, with_sign};
+ghost use Rattle.number_rules.specs.Value.{mantissa, exponent, spelled, with_digit, count_digits, places as places_of, begins_with_minus, with_sign};
 
 /// How many bytes stand before the `e`.
 fn mantissa_length(bytes: &[u8]) -> usize
@@ -76,7 +76,7 @@ fn capped_exponent(bytes: &[u8]) -> i64
 /// How many digits stand before the point.
 fn digits_before_point(bytes: &[u8]) -> usize
     ensures within { result ≤ length bytes.now }
-    ensures behind { count_digits bytes.now ≡ result + places bytes.now }
+    ensures behind { count_digits bytes.now ≡ result + places_of bytes.now }
 {
     let mut count = 0;
     for byte in bytes {
@@ -90,12 +90,12 @@ fn digits_before_point(bytes: &[u8]) -> usize
     count
 }
 
-/// How many digits of the value in steps of 10^-18 stand before the point, or, below zero, how many zeros stand behind it
-/// before the first digit. An exponent past `MOST` counts as that.
-pub fn whole_digits(mantissa: &[u8], exponent: &[u8]) -> i64
+/// How many digits of the value in steps of 10^-`places` stand before the point, or, below zero, how many zeros stand behind
+/// it before the first digit. An exponent past `MOST` counts as that.
+pub fn whole_digits(places: u8, mantissa: &[u8], exponent: &[u8]) -> i64
     requires { length mantissa.now ≤ 16777216 }
     ensures { let power = with_sign (begins_with_minus exponent.now) (min (spelled exponent.now) 1000000000) in
-        result -ℤ pos (count_digits mantissa.now) ≡ (pos 18 +ℤ power) -ℤ pos (places mantissa.now) }
+        result -ℤ pos (count_digits mantissa.now) ≡ (pos places +ℤ power) -ℤ pos (places_of mantissa.now) }
 {
-    digits_before_point(mantissa) as i64 + 18 + capped_exponent(exponent)
+    digits_before_point(mantissa) as i64 + i64::from(places) + capped_exponent(exponent)
 }
