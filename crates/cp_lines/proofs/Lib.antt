@@ -5,3 +5,4 @@ pub mod Places
 pub mod Prints
 pub mod Readings
 pub mod SmallKinds
+pub mod Short

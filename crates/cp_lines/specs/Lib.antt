@@ -4,3 +4,4 @@ pub mod Machine
 pub mod Place
 pub mod Print
 pub mod Reads
+pub mod Short

@@ -1,5 +1,7 @@
 ghost use Rattle.std.specs.Prelude.{◌≡◌, ◌≤◌, ◌⊎◌, ℕ, List, length, All, IfOk};
 ghost use Rattle.cp_lines.specs.CpText.{CpText};
+ghost use Rattle.std.specs.List.{AllByRecursion};
+ghost use Rattle.cp_lines.specs.Short.{HasNumbersUpTo};
 ghost use Rattle.cp_lines.specs.Reads.{NamesFirstFault, Reads, IsReading, LacksMemory};
 ghost use Rattle.cp_lines.specs.declared.line.CpLine.{CpLine};
 ghost use Rattle.cp_lines.specs.declared.fault.CpFault.{CpFault};
@@ -41,6 +43,12 @@ pub fn one_reading()
     ensures fault { (text : List ℕ) (f g : CpFault) → NamesFirstFault text f → NamesFirstFault text g → f ≡ g }
     ensures either { (text : List ℕ) (v : List CpLine) (f : CpFault) → CpText text v → NamesFirstFault text f → ⊥ }
     ensures some { (text : List ℕ) → ((lines : List CpLine) × CpText text lines) ⊎ ((fault : CpFault) × NamesFirstFault text fault) }
+{}
+
+/// A text spells no more lines than it has bytes, and no number in them is longer than the text.
+pub fn short_lines()
+    ensures count { (text : List ℕ) (lines : List CpLine) → CpText text lines → length lines ≤ length text }
+    ensures numbers { (text : List ℕ) (lines : List CpLine) → CpText text lines → AllByRecursion (HasNumbersUpTo (length text)) lines }
 {}
 
 fn read_text(alloc: Global, text: &[u8]) -> Result<Reading, AllocError>
