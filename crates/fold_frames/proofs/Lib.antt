@@ -9,3 +9,4 @@ pub mod OneFrame
 pub mod ByKey
 pub mod Elements
 pub mod Existing
+pub mod Short

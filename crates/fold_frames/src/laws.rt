@@ -1,5 +1,6 @@
-ghost use Rattle.std.specs.Prelude.{None, ◌≡◌, ◌⊎◌, ◌↔◌, ℕ, List, Some};
-ghost use Rattle.json_tree.specs.Tree.{IsProper};
+ghost use Rattle.std.specs.Prelude.{None, ◌≡◌, ◌⊎◌, ◌↔◌, ◌≤◌, ℕ, List, Some, length};
+ghost use Rattle.std.specs.List.{AllByRecursion};
+ghost use Rattle.json_tree.specs.Tree.{HasLengthsUpTo, IsProper};
 ghost use Rattle.json_tree.specs.declared.tree.Json.{Json};
 ghost use Rattle.fold_keys.specs.Shape.{misfit_of_file};
 ghost use Rattle.fold_keys.specs.Short.{HasShortLists, HasShortSpec};
@@ -9,6 +10,7 @@ ghost use Rattle.fold_keys.specs.declared.value.Entry.{Entry};
 ghost use Rattle.fold_keys.specs.declared.value.FoldFile.{FoldFile as File};
 ghost use Rattle.fold_keys.specs.declared.value.Frame.{Frame};
 ghost use Rattle.fold_keys.specs.declared.value.Value.{Value};
+ghost use Rattle.fold_keys.specs.declared.value.Value.TheVariants.{Coords};
 ghost use Rattle.fold_frames.specs.Answers.{AreInherited, HasNone};
 ghost use Rattle.fold_frames.specs.Inherits.{HasInEffect};
 ghost use Rattle.fold_frames.specs.Parents.{value_at};
@@ -35,6 +37,16 @@ pub fn inherited_by_key()
     ensures { (file : File) → IsWritable file → (k : ℕ) (entries : List Entry) →
         AreInherited file.frames k entries → (key : List ℕ) (value : Value) →
         (value_at entries key ≡ Some value) ↔ HasInEffect file.frames k key value }
+{
+    writable_entries();
+}
+
+/// No text of the coordinates of an effective frame is longer than what is longest in the tree of its file.
+pub fn coordinates_are_short()
+    ensures { (most : ℕ) (file : File) → IsWritable file → HasLengthsUpTo most (tree_of_file file) →
+        (k : ℕ) (entries : List Entry) → AreInherited file.frames k entries →
+        (key : List ℕ) (points : List (List (List ℕ))) → value_at entries key ≡ Some (Coords points) →
+        AllByRecursion (AllByRecursion (λ text. length text ≤ most)) points }
 {
     writable_entries();
 }

@@ -12,4 +12,4 @@ pub use counts::Counts;
 pub use fault::FrameFault;
 pub use frame::Effective;
 pub use inherited::effective;
-pub use laws::{inherited_by_key, one_effective_frame, trees_have_files};
+pub use laws::{coordinates_are_short, inherited_by_key, one_effective_frame, trees_have_files};
