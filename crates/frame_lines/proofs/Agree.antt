@@ -32,15 +32,15 @@ use Rattle.frame_lines.specs.Lines.{HasLines, edges_in, is_flat, kind_of, letter
 
 -- ---- no answer
 
-none_first : {B : Type 0} (a b : Option B) → or_else a b ≡ None → (a ≡ None) × (b ≡ None)
+pub none_first : {B : Type 0} (a b : Option B) → or_else a b ≡ None → (a ≡ None) × (b ≡ None)
 none_first None b h = (refl, h)
 none_first (Some x) b h = cc
 
-none_map : {A B : Type 0} (f : A → B) (o : Option A) → option_map f o ≡ None → o ≡ None
+pub none_map : {A B : Type 0} (f : A → B) (o : Option A) → option_map f o ≡ None → o ≡ None
 none_map f None h = refl
 none_map f (Some x) h = cc
 
-none_each : {A B : Type 0} (f : A → Option B) (xs : List A) → first_of f xs ≡ None
+pub none_each : {A B : Type 0} (f : A → Option B) (xs : List A) → first_of f xs ≡ None
     → AllByRecursion (λ x. f x ≡ None) xs
 none_each f [] h = tt
 none_each f (x ∷ xs) h =
@@ -48,7 +48,7 @@ none_each f (x ∷ xs) h =
 
 -- ---- coordinates
 
-if_none : {B : Type 0} (b : Bool) (x y : Option B) (c : B) → (if b then x else Some c) ≡ None → b ≡ true
+pub if_none : {B : Type 0} (b : Bool) (x y : Option B) (c : B) → (if b then x else Some c) ≡ None → b ≡ true
 if_none true x y c e = refl
 if_none false x y c e = cc
 
@@ -80,7 +80,7 @@ axes_of_all from (point ∷ points) h =
     (misfit_of_coords tree) parts.0 in
     (axes_of_one point here, axes_of_all (suc from) points parts.1)
 
-all_at : {X : Type 0} (P : X → Type 0) (xs : List X) → AllByRecursion P xs → All P xs
+pub all_at : {X : Type 0} (P : X → Type 0) (xs : List X) → AllByRecursion P xs → All P xs
 all_at P [] all k d within = absurd (omega (arith, within))
 all_at P (x ∷ xs) all Prim.Native.Nat.zero d within = all.0
 all_at P (x ∷ xs) all (suc k) d within = all_at P xs all.1 k d (omega (arith, within))
@@ -130,7 +130,7 @@ prefix_full p (x ∷ xs) h = at (p x) refl h (prefix_full p xs)
         subst (λ b. suc (length xs) ≤ cond b (1 + prefix_len p xs) 0) e h in
         absurd (omega (arith, none))
 
-no_position : {X : Type 0} (test : X → Bool) (xs : List X) → position test xs ≡ None
+pub no_position : {X : Type 0} (test : X → Bool) (xs : List X) → position test xs ≡ None
     → AllByRecursion (λ x. not (test x) ≡ true) xs
 no_position test xs e = at (nat_lt (position_or_len test xs) (length xs)) refl
   where
@@ -143,10 +143,10 @@ no_position test xs e = at (nat_lt (position_or_len test xs) (length xs)) refl
 
 -- ---- edges between vertices that are there
 
-abbrev IsWithin : ℕ → ℕ × ℕ → Type 0
+abbrev pub IsWithin : ℕ → ℕ × ℕ → Type 0
 IsWithin n edge = (edge.0 < n) × (edge.1 < n)
 
-not_past : (n id : ℕ) → is_past n id ≡ false → id < n
+pub not_past : (n id : ℕ) → is_past n id ≡ false → id < n
 not_past n id h = ltb-true id n (turn (nat_lt id n) h)
   where
     turn : (b : Bool) → not b ≡ false → b ≡ true
@@ -173,7 +173,7 @@ module _ (f : FrameInEffect) (points : List (List (List ℕ))) (edges : List (�
     (agree : misfit_in_effect f ≡ None)
     (coords : value_at f.entries (codes "vertices_coords") ≡ Some (values.Coords points))
     (pairs : value_at f.entries (codes "edges_vertices") ≡ Some (values.Pairs edges)) where
-  parts : (first_uneven f.entries ≡ None) × (first_past f.entries ≡ None)
+  pub parts : (first_uneven f.entries ≡ None) × (first_past f.entries ≡ None)
   parts =
       let both = none_first (option_map (fault_at f.frame causes.Uneven) (first_uneven f.entries))
       (option_map (fault_at f.frame causes.IdRange) (first_past f.entries)) agree in (
@@ -181,7 +181,7 @@ module _ (f : FrameInEffect) (points : List (List (List ℕ))) (edges : List (�
         none_map {B = ShapeFault} (fault_at f.frame causes.IdRange) (first_past f.entries) both.1,
       )
 
-  vertices : count_of f.entries Vertices ≡ Some (length points)
+  pub vertices : count_of f.entries Vertices ≡ Some (length points)
   vertices =
       ap (λ o. or_else (option_and_then length_of o) (first_of (length_at f.entries)
       (codes "fx:vertices_coords" ∷ codes "vertices_vertices" ∷ codes "vertices_edges" ∷ codes "vertices_faces" ∷ []))) coords
@@ -191,8 +191,8 @@ module _ (f : FrameInEffect) (points : List (List (List ℕ))) (edges : List (�
       ap (λ o. or_else (option_and_then length_of o) (first_of (length_at f.entries)
       (codes "edges_faces" ∷ codes "edges_assignment" ∷ codes "edges_foldAngle" ∷ codes "edges_length" ∷ []))) pairs
 
-  pub within : All (λ edge. (edge.0 < length points) × (edge.1 < length points)) edges
-  within =
+  pub each_within : AllByRecursion (IsWithin (length points)) edges
+  each_within =
       let each = none_each (past_at f.entries) id_lists parts.1 in
       let here = none_map {B = List ℕ × ℕ} (λ place. (codes "edges_vertices", place))
       (option_and_then (λ count. option_and_then (place_past count) (value_at f.entries (codes "edges_vertices")))
@@ -200,9 +200,11 @@ module _ (f : FrameInEffect) (points : List (List (List ℕ))) (edges : List (�
       let none : place_past (length points) (values.Pairs edges) ≡ None =
       sym (ap (option_and_then (λ count. option_and_then (place_past count) (value_at f.entries (codes "edges_vertices")))) vertices
       ∙ ap (option_and_then (place_past (length points))) pairs) ∙ here in
-      all_at (IsWithin (length points)) edges
-      (none_past (length points) edges
-      (no_position (λ pair. is_past (length points) pair.0 || is_past (length points) pair.1) edges none))
+      none_past (length points) edges
+      (no_position (λ pair. is_past (length points) pair.0 || is_past (length points) pair.1) edges none)
+
+  pub within : All (λ edge. (edge.0 < length points) × (edge.1 < length points)) edges
+  within = all_at (IsWithin (length points)) edges each_within
 
   -- as many letters as edges
   pub lettered : length (letters_in (length edges) (value_at f.entries (codes "edges_assignment")))

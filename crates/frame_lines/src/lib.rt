@@ -7,4 +7,4 @@ mod lines;
 mod zero;
 
 pub use fault::LinesFault;
-pub use lines::frame_lines;
+pub use lines::{frame_lines, is_flat, letters_of, lines_of};

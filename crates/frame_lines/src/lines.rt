@@ -59,8 +59,12 @@ fn edges_of<'a>(alloc: Global, frame: &'a Effective) -> Result<&'a [(u32, u32)],
     }
 }
 
-/// The letters of so many edges.
-fn letters_of(alloc: Global, frame: &Effective, edges: usize) -> Result<List<Letter>, AllocError>
+/// The letters of so many edges: nobody has chosen how they are folded where the frame has none.
+pub fn letters_of(
+    alloc: Global,
+    frame: &Effective,
+    edges: usize,
+) -> Result<List<Letter>, AllocError>
     ensures { IfOk result (λ letters.
         letters ≡ letters_in edges (value_at frame.now.entries (codes "edges_assignment"))) }
 {
@@ -88,7 +92,8 @@ fn first_steep(points: &[List<NumberText>]) -> Option<usize>
     points.iter().position(|point| !is_flat(point.as_slice()))
 }
 
-fn is_flat(point: &[NumberText]) -> bool
+/// Whether the value of a third coordinate, if there is one, is 0.
+pub fn is_flat(point: &[NumberText]) -> bool
     ensures { result ≡ is_flat point.now }
 {
     match point {
@@ -97,8 +102,8 @@ fn is_flat(point: &[NumberText]) -> bool
     }
 }
 
-/// A line for each edge, with its letter.
-fn lines_of(
+/// A line for each edge: the coordinates of its two ends, and the kind of its letter.
+pub fn lines_of(
     alloc: Global,
     points: &[List<NumberText>],
     edges: &[(u32, u32)],
