@@ -23,7 +23,7 @@ zip_more R [] (b ∷ bs) x y all here = absurd all
 zip_more R (a ∷ as') [] x y all here = absurd all
 zip_more R (a ∷ as') (b ∷ bs) x y all here = (all.0, zip_more R as' bs x y all.1 here)
 
-split_at : {A : Type 0} (xs : List A) (n : ℕ) (d : A) → n < length xs
+pub split_at : {A : Type 0} (xs : List A) (n : ℕ) (d : A) → n < length xs
     → xs ≡ take n xs ++ get_or xs n d ∷ drop (suc n) xs
 split_at xs n d below =
     sym (take-append-drop n xs) ∙ ap (λ t. take n xs ++ t) (drop-cons xs n d below)
@@ -71,7 +71,10 @@ module _ {N : Type 0} (parts : N → Parts) (answers : List ℕ → Result N Unr
       (split_at lines n line below ∙ ap (λ l. take n lines ++ l ∷ drop (suc n) lines) (sym at))
       stands.read
       (subst (λ k. AnswersLine answers line k (Err (faults.Unread vertex axis cause))) (sym (length-take-le n lines (omega arith))) is)
+  stands_refused lines n line coords edges (faults.Missing key) below at is stands = absurd is
   stands_refused lines n line coords edges (faults.TooMany what) below at is stands = absurd is
+  stands_refused lines n line coords edges (faults.NotFlat v) below at is stands = absurd is
+  stands_refused lines n line coords edges (faults.Stale v) below at is stands = absurd is
   stands_refused lines n line coords edges (faults.Memory e) below at is stands = absurd is
 
   pub stands_whole : (lines : List CpLine) (n : ℕ) (coords : List (Pair N)) (edges : List Edge)

@@ -4,5 +4,14 @@ pub mod Gathering
 pub mod Texted
 pub mod Drawn
 pub mod Short
-pub mod Zeros
 pub mod OneAnswer
+mod OneReading
+mod OneFile
+mod OneDrawing
+mod ExactReadings
+mod SomeDrawing
+pub mod Frames
+pub mod Lowest
+pub mod Framed
+pub mod FrameAnswers
+mod EdgeLines

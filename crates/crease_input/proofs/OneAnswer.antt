@@ -19,21 +19,21 @@ ok_once {T} {E} x y e = ap inside e
     inside (Ok t) = t
     inside (Err f) = x
 
-err_once : {T E : Type 0} (c d : E) → let r : Result T E = Err c in r ≡ Err d → c ≡ d
+pub err_once : {T E : Type 0} (c d : E) → let r : Result T E = Err c in r ≡ Err d → c ≡ d
 err_once {T} {E} c d e = ap inside e
   where
     inside : Result T E → E
     inside (Ok t) = c
     inside (Err f) = f
 
-head_once : {A : Type 0} (x y : A) (xs ys : List A) → x ∷ xs ≡ y ∷ ys → x ≡ y
+pub head_once : {A : Type 0} (x y : A) (xs ys : List A) → x ∷ xs ≡ y ∷ ys → x ≡ y
 head_once {A} x y xs ys e = ap first e
   where
     first : List A → A
     first [] = x
     first (z ∷ zs) = z
 
-tail_once : {A : Type 0} (x y : A) (xs ys : List A) → x ∷ xs ≡ y ∷ ys → xs ≡ ys
+pub tail_once : {A : Type 0} (x y : A) (xs ys : List A) → x ∷ xs ≡ y ∷ ys → xs ≡ ys
 tail_once {A} x y xs ys e = ap rest e
   where
     rest : List A → List A
@@ -44,7 +44,7 @@ module _ {N : Type 0} (answers : List ℕ → Result N Unread → Type 0) (one :
   number_once : (text : List ℕ) (x y : N) → answers text (Ok x) → answers text (Ok y) → x ≡ y
   number_once text x y is as' = ok_once x y (one text (Ok x) (Ok y) is as')
 
-  point_once : (x y : List ℕ) (p q : Pair N) → IsPoint answers x y p → IsPoint answers x y q → p ≡ q
+  pub point_once : (x y : List ℕ) (p q : Pair N) → IsPoint answers x y p → IsPoint answers x y q → p ≡ q
   point_once x y p q is as' =
       λ i. record { x = number_once x p.x q.x is.0 as'.0 i; y = number_once y p.y q.y is.1 as'.1 i }
 
@@ -72,11 +72,11 @@ module _ {N : Type 0} (answers : List ℕ → Result N Unread → Type 0) (one :
   IsRead t = (x : N) × answers t (Ok x)
 
   -- a text that is read isn't refused
-  not_refused : (t u : List ℕ) (c : Unread) → t ≡ u → IsRead t → answers u (Err c) → ⊥
+  pub not_refused : (t u : List ℕ) (c : Unread) → t ≡ u → IsRead t → answers u (Err c) → ⊥
   not_refused t u c same read refused =
       let clash : Ok read.0 ≡ Err c = one u (Ok read.0) (Err c) (subst (λ s. answers s (Ok read.0)) same read.1) refused in cc
 
-  first_once : (b1 b2 : List (List ℕ)) (t1 t2 : List ℕ) (a1 a2 : List (List ℕ)) (c d : Unread)
+  pub first_once : (b1 b2 : List (List ℕ)) (t1 t2 : List ℕ) (a1 a2 : List (List ℕ)) (c d : Unread)
       → b1 ++ t1 ∷ a1 ≡ b2 ++ t2 ∷ a2 → AllByRecursion IsRead b1 → AllByRecursion IsRead b2
       → answers t1 (Err c) → answers t2 (Err d) → (length b1 ≡ length b2) × (c ≡ d)
   first_once [] [] t1 t2 a1 a2 c d e r1 r2 is has =
@@ -103,7 +103,7 @@ module _ {N : Type 0} (answers : List ℕ → Result N Unread → Type 0) (one :
       let place = place_once v w a b (sym is.count ∙ same.0 ∙ has.count) in
       (place.0, place.1, same.1)
 
-  read_or_not : (b : List (List ℕ)) (t : List ℕ) (a : List (List ℕ)) (c : Unread)
+  pub read_or_not : (b : List (List ℕ)) (t : List ℕ) (a : List (List ℕ)) (c : Unread)
       → AllByRecursion IsRead (b ++ t ∷ a) → answers t (Err c) → ⊥
   read_or_not [] t a c read refused = not_refused t t c refl read.0 refused
   read_or_not (x ∷ b) t a c read refused = read_or_not b t a c read.1 refused

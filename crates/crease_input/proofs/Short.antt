@@ -196,7 +196,7 @@ module _ {N : Type 0} (k : ℕ) (parts : N → Parts) (row : Row) (gives : Decim
   abbrev answers : List ℕ → Result N Unread → Type 0
   answers = Answers k parts row gives
 
-  number_short : (text : List ℕ) (x : N) → answers text (Ok x) → AreShort (parts x)
+  pub number_short : (text : List ℕ) (x : N) → answers text (Ok x) → AreShort (parts x)
   number_short text x is = row_short k row is.decimal (parts x) three some most is.by_row
 
   point_short : (x y : List ℕ) (p : Pair N) → IsPoint answers x y p → HasShortParts parts p

@@ -52,7 +52,10 @@ module _ {N : Type 0} (answers : List ℕ → Result N Unread → Type 0) where
       refused = is.2;
     },
   )
+  x_refused x y vertex (faults.Missing key) is = absurd is
   x_refused x y vertex (faults.TooMany what) is = absurd is
+  x_refused x y vertex (faults.NotFlat v) is = absurd is
+  x_refused x y vertex (faults.Stale v) is = absurd is
   x_refused x y vertex (faults.Memory e) is = absurd is
 
   pub y_refused : (x y : List ℕ) (vertex : ℕ) (number : N) (fault : InputFault) → answers x (Ok number)
@@ -69,7 +72,10 @@ module _ {N : Type 0} (answers : List ℕ → Result N Unread → Type 0) where
       refused = is.2;
     },
   )
+  y_refused x y vertex number (faults.Missing key) read is = absurd is
   y_refused x y vertex number (faults.TooMany what) read is = absurd is
+  y_refused x y vertex number (faults.NotFlat v) read is = absurd is
+  y_refused x y vertex number (faults.Stale v) read is = absurd is
   y_refused x y vertex number (faults.Memory e) read is = absurd is
 
   pub from_refused : (line : CpLine) (number vertex : ℕ) (fault : InputFault) → vertex ≡ 2 * number
@@ -80,7 +86,10 @@ module _ {N : Type 0} (answers : List ℕ → Result N Unread → Type 0) where
     among [] (line.x1 ∷ line.y1 ∷ []) (line.x2 ∷ line.y2 ∷ []) (place_of_axis a) cause tt is.1,
     omega (arith, twice, is.0),
   )
+  from_refused line number vertex (faults.Missing key) twice is = absurd is
   from_refused line number vertex (faults.TooMany what) twice is = absurd is
+  from_refused line number vertex (faults.NotFlat v) twice is = absurd is
+  from_refused line number vertex (faults.Stale v) twice is = absurd is
   from_refused line number vertex (faults.Memory e) twice is = absurd is
 
   pub to_refused : (line : CpLine) (number vertex : ℕ) (from : Pair N) (fault : InputFault)
@@ -93,7 +102,10 @@ module _ {N : Type 0} (answers : List ℕ → Result N Unread → Type 0) where
         ((from.x, read.0), ((from.y, read.1), tt)) is.1,
     omega (arith, next, is.0),
   )
+  to_refused line number vertex from (faults.Missing key) next read is = absurd is
   to_refused line number vertex from (faults.TooMany what) next read is = absurd is
+  to_refused line number vertex from (faults.NotFlat v) next read is = absurd is
+  to_refused line number vertex from (faults.Stale v) next read is = absurd is
   to_refused line number vertex from (faults.Memory e) next read is = absurd is
 
   -- ---- lines

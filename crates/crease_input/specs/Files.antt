@@ -2,12 +2,14 @@
 use Rattle.std.specs.Prelude.{◌≡◌, ◌↔◌, ℕ, ℤ, pos, negsuc, ◌<◌, ◌^◌, ◌≤ℤ◌, Bool, IsTrue, List, [], ◌∷◌, ◌++◌, length, map, Option, Some, None, codes, if◌then◌else◌}
 use Rattle.std.specs.List.{AllByRecursion, AllZip}
 use Rattle.algebra.specs.LowestTerms.{Parts}
+use Rattle.cp_lines.specs.declared.line.CpLine.{CpLine}
 use Rattle.fold_keys.specs.Writable.{file_of}
 use Rattle.fold_keys.specs.declared.value.Entry.{Entry}
 use Rattle.fold_keys.specs.declared.value.FaceOrder.{FaceOrder}
 use Rattle.fold_keys.specs.declared.value.FoldFile.{FoldFile}
 use Rattle.fold_keys.specs.declared.value.Value.{Value}
 use Rattle.fold_keys.specs.declared.value.Value.TheVariants as values
+use Rattle.frame_lines.specs.Lines.{line_of}
 use Rattle.number_rules.specs.ExactText.{AreShort, exact_text_of}
 use Rattle.number_rules.specs.Nine.{IsNineText, IsExactlyNine}
 use Rattle.scaled_plane.specs.declared.drawing.Edge.{Edge}
@@ -129,3 +131,15 @@ module _ {N : Type 0} (k : ℕ) (parts : N → Parts) where
       (vertices : List Entry) × AreVertexEntries ends.coords vertices
       × (file ≡ file_of (head_entries class ++ vertices ++ edge_entries ends.edges
       ++ face_entries faces ++ order_entries orders))
+
+  -- ---- as CP lines
+
+  -- the line of an edge between points with these texts
+  abbrev pub line_between : List (List ℕ × List ℕ) → Edge → CpLine
+  line_between texts edge = line_of (map (λ t. t.0 ∷ t.1 ∷ []) texts) ((edge.from, edge.to), edge.letter)
+
+  -- the lines of the edges, in their order, their ends rounded to nine decimals
+  abbrev pub AreDrawingLines : Ends N → List CpLine → Type 0
+  AreDrawingLines ends lines =
+      (texts : List (List ℕ × List ℕ)) × AllZip AreNineTexts ends.coords texts
+      × (lines ≡ map (line_between texts) ends.edges)

@@ -109,8 +109,8 @@ module _ {N : Type 0} (parts : N → Parts) where
       (creases : List (Crease N)) × AllZip (IsCrease answers) lines creases × (ends ≡ ends_of creases)
   AnswersEnds answers lines (Err (faults.Unread vertex axis cause)) =
       IsUnreadAt answers (coordinates_of lines) (place_of vertex axis) cause
-  AnswersEnds answers lines (Err (faults.TooMany what)) = ⊥
   AnswersEnds answers lines (Err (faults.Memory e)) = Unit {0}
+  AnswersEnds answers lines (Err fault) = ⊥
 
 -- an edge between two of so many vertices
 abbrev pub IsEdgeWithin : ℕ → Edge → Type 0

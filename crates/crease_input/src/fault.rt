@@ -1,3 +1,4 @@
+use fold_base::Text;
 use number_rules::Unread;
 use std::alloc::AllocError;
 use thiserror::Error;
@@ -12,22 +13,39 @@ pub enum Axis {
 /// What a drawing has more of than is computed with.
 #[derive(Clone, Copy, Debug, PartialEq, Eq)]
 pub enum Counted {
+    Vertices,
     Segments,
+    Faces,
 }
 
 /// Why there are no vertices and edges.
-#[derive(Clone, Copy, Debug, PartialEq, Eq, Error)]
+#[derive(Debug, PartialEq, Eq, Drop, Error)]
 pub enum InputFault {
+    /// The frame lacks this key.
+    #[error("missing {key}")]
+    Missing {
+        key: Text,
+    },
     #[error("too many {what:?}")]
     TooMany {
         what: Counted,
     },
-    /// A coordinate is no number by the rule.
+    /// The third coordinate of this vertex isn't 0.
+    #[error("not flat {vertex}")]
+    NotFlat {
+        vertex: u32,
+    },
+    /// A coordinate is no number by the rule, or by its exact text.
     #[error("unread {vertex} {axis:?} {cause:?}")]
     Unread {
         vertex: u32,
         axis: Axis,
         cause: Unread,
+    },
+    /// A coordinate of this vertex isn't its exact number, rounded to nine decimals.
+    #[error("stale {vertex}")]
+    Stale {
+        vertex: u32,
     },
     /// Memory was refused.
     #[error(transparent)]

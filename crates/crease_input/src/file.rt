@@ -55,13 +55,13 @@ fn put_vertices<N: Exact>(
     put(alloc, entries, "fx:vertices_coords", Value::Exact(texts))
 }
 
-fn pairs_of(alloc: Global, edges: &[Edge]) -> Result<Vec<(u32, u32)>, AllocError>
+pub(crate) fn pairs_of(alloc: Global, edges: &[Edge]) -> Result<Vec<(u32, u32)>, AllocError>
     ensures { IfOk result (λ pairs. pairs.items ≡ map (λ edge. (edge.from, edge.to)) edges.now) }
 {
     edges.iter().map(|edge| (edge.from, edge.to)).collect(alloc)
 }
 
-fn letters_of(alloc: Global, edges: &[Edge]) -> Result<Vec<Letter>, AllocError>
+pub(crate) fn letters_of(alloc: Global, edges: &[Edge]) -> Result<Vec<Letter>, AllocError>
     ensures { IfOk result (λ letters. letters.items ≡ map (λ edge. edge.letter) edges.now) }
 {
     edges.iter().map(|edge| edge.letter).collect(alloc)

@@ -4,20 +4,26 @@
 
 mod corner;
 mod crease;
+mod exact;
 mod fault;
 mod file;
-mod flat;
+mod frame;
+mod laws;
 mod lines;
 mod reading;
 mod root;
+mod segments;
 mod texts;
+mod vertices;
 
 pub use crease::Crease;
 pub use fault::{Axis, Counted, InputFault};
 pub use file::drawing_file;
-pub use flat::first_raised;
+pub use frame::frame_ends;
+pub use laws::{one_drawing, one_file, one_list_of_lines, one_reading};
 pub use lines::{all_lines_ends, lines_ends};
 pub use root::frame_root;
+pub use segments::drawing_lines;
 
 #[cfg(test)]
 mod tests;

@@ -4,6 +4,7 @@ ghost use Rattle.std.specs.List.{AllByRecursion};
 ghost use Rattle.number_rules.specs.Kept.{KeepsItsRow};
 ghost use Rattle.crease_input.specs.Lines.{IsReadable, Answers, AnswersEnds, IsWithin, edge_in};
 ghost use Rattle.crease_input.specs.Files.{HasShortParts};
+ghost use Rattle.crease_input.specs.Readings.{ReadsEnds};
 ghost use Rattle.crease_input.specs.Points.{place_in, with_point};
 ghost use Rattle.crease_input.specs.declared.fault.Counted.TheVariants.{Segments};
 ghost use Rattle.crease_input.specs.declared.fault.InputFault.TheVariants.{TooMany};
@@ -79,6 +80,7 @@ pub fn all_lines_ends<N: Exact, F: Fn(Decimal) -> Result<N, Unread>>(
     requires readable { AllByRecursion IsReadable lines.now }
     requires few { length lines.now < 2 ^ 31 }
     ensures ends { AnswersEnds N.parts (Answers N.ROOT N.parts rule.now.row (F.post rule.now.call)) lines.now result }
+    ensures row { ReadsEnds N.ROOT N.parts rule.now.row lines.now result }
     ensures within { IfOk result (λ ends. IsWithin lines.now ends) }
     ensures short { IfOk result (λ ends. AllByRecursion (HasShortParts N.parts) ends.coords) }
 {
@@ -103,6 +105,7 @@ pub fn lines_ends<N: Exact, F: Fn(Decimal) -> Result<N, Unread>>(
     requires readable { AllByRecursion IsReadable lines.now }
     ensures ends { length lines.now ≤ 2048
         → AnswersEnds N.parts (Answers N.ROOT N.parts rule.now.row (F.post rule.now.call)) lines.now result }
+    ensures row { length lines.now ≤ 2048 → ReadsEnds N.ROOT N.parts rule.now.row lines.now result }
     ensures too_many { 2048 < length lines.now → result ≡ Err (TooMany Segments) }
     ensures within { IfOk result (λ ends. IsWithin lines.now ends) }
     ensures short { IfOk result (λ ends. AllByRecursion (HasShortParts N.parts) ends.coords) }

@@ -48,7 +48,7 @@ fn read_number<N: Exact, F: Fn(Decimal) -> Result<N, Unread>>(
 }
 
 /// An end, its x before its y.
-fn read_point<N: Exact, F: Fn(Decimal) -> Result<N, Unread>>(
+pub(crate) fn read_point<N: Exact, F: Fn(Decimal) -> Result<N, Unread>>(
     rule: &NumberRule<N, F>,
     x: &NumberText,
     y: &NumberText,

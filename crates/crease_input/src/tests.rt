@@ -5,7 +5,7 @@ ghost use Rattle.number_rules.specs.Kept.{KeepsItsRow};
 ghost use Rattle.root_two.specs.Roots.{root_parts};
 ghost use Rattle.crease_input.specs.Lines.{IsReadable};
 
-use crate::{Axis, InputFault, all_lines_ends, drawing_file, first_raised, frame_root, lines_ends};
+use crate::{Axis, InputFault, all_lines_ends, drawing_file, frame_root, lines_ends};
 use cp_lines::CpLine;
 use exact_number::Exact;
 use fold_base::{Letter, List};
@@ -218,22 +218,5 @@ fn faces_and_their_orders(rt: HostRuntime) -> Result<(), Fail> {
         )
     );
     assert_eq!(rt; frame_root(&effective(alloc, &file, 0)?), None);
-    Ok(())
-}
-
-#[test]
-fn the_first_out_of_the_plane(rt: HostRuntime) -> Result<(), Fail> {
-    let alloc = rt.alloc();
-    let mut coords = Vec::new(alloc);
-    for z in ["-0.00e7", "0", "0.01", "10"] {
-        let mut point = List::new(alloc);
-        for text in ["1", "2", z] {
-            point.push(number(&rt, alloc, text)?)?;
-        }
-        coords.push(point)?;
-    }
-    let count = coords.len();
-    assert!(rt; count <= 4);
-    assert_eq!(rt; first_raised(coords.as_slice()), Some(2));
     Ok(())
 }

@@ -1,7 +1,8 @@
-use Rattle.std.proofs.Common.{rules, ◌≡◌, [], arith}
+use Rattle.std.proofs.Common.{rules, ◌≡◌, [], arith, Ok}
 use Rattle.std.proofs.lemmas.List.{length-map}
 use Rattle.std.proofs.lemmas.Result.{err_from_is_err_and}
 use Rattle.crease_input.proofs.Gathering.{stands_none, stands_more, stands_few, stands_refused, stands_whole, stands_handed, stands_within}
+use Rattle.crease_input.proofs.OneReading.{by_row}
 use Rattle.crease_input.proofs.Short.{ends_short}
 use Rattle.crease_input.proofs.lines.all_lines_ends.Goals as goal
 
@@ -16,6 +17,10 @@ returns-in_err-crease-clause-ends g c =
     rw (p.1, p.2)
     (stands_refused _ _ c.args.lines.now c.loop-number.number c.index-lines-number.result _ _ _
     c.loop-number-test.true c.index-lines-number.is c.in_err-crease.ensures c.loop-number.invariant)
+
+pub returns-in_err-crease-clause-row : goal.returns-in_err-crease-clause-row
+returns-in_err-crease-clause-row g c =
+    by_row g.N.Exact.ROOT g.N.Exact.parts c.args.rule.now.row _ c.args.lines.now _ (returns-in_err-crease-clause-ends g c)
 
 pub edge_of-requires : goal.edge_of-requires
 edge_of-requires g c =
@@ -37,6 +42,11 @@ returns-clause-ends g c =
     c.loop-number-test.false
     (stands_handed _ _ c.args.lines.now c.loop-number.number _ c.in_ok-coords.coords c.loop-number.edges
     c.in_ok-coords.ensures c.loop-number.invariant)
+
+pub returns-clause-row : goal.returns-clause-row
+returns-clause-row g c =
+    by_row g.N.Exact.ROOT g.N.Exact.parts c.args.rule.now.row _ c.args.lines.now
+    (Ok (record { coords = c.in_ok-coords.coords; edges = c.loop-number.edges })) (returns-clause-ends g c)
 
 pub returns-clause-within : goal.returns-clause-within
 returns-clause-within g c =
