@@ -14,7 +14,7 @@ const FRAMES: &str =
     {\"x:y\":7,\"frame_parent\":1,\"frame_inherit\":true}]}";
 
 /// The file that the text spells.
-fn file_of(alloc: Global, text: &str) -> Result<FoldFile, Fail>
+pub fn file_of(alloc: Global, text: &str) -> Result<FoldFile, Fail>
     ensures { IfOk result IsWritable }
 {
     if text.len() > MOST_BYTES as usize {
