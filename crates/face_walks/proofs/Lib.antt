@@ -14,3 +14,4 @@ pub mod Facing
 pub mod Assembling
 pub mod Walked
 pub mod Ends
+pub mod Counted

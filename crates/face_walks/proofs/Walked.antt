@@ -10,12 +10,14 @@ use Rattle.scaled_plane.specs.WellSet.{IsWellSet}
 use Rattle.half_edges.specs.declared.arena.HalfId.{HalfId}
 use Rattle.half_edges.specs.Halves.{Halves, IsArena, count}
 use Rattle.face_walks.specs.declared.headings.Heading.{Heading}
+use Rattle.face_walks.specs.Fitting.{AreFacesWithin}
 use Rattle.face_walks.specs.Found.{AreCycles}
 use Rattle.face_walks.specs.Linked.{IsLinked, piece_at}
 use Rattle.face_walks.specs.Links.{LeadRound}
 use Rattle.face_walks.specs.Made.{AreMade}
 use Rattle.face_walks.specs.Outside.{IsOutsideHalf}
 use Rattle.face_walks.proofs.Assembling.{held, led, outside_below, outside_is}
+use Rattle.face_walks.proofs.Counted.{are_within}
 use Rattle.face_walks.proofs.Facing.{are_faces, outer_walk}
 use Rattle.face_walks.proofs.Linking.{linked}
 use Rattle.face_walks.proofs.Settled.{plane}
@@ -43,3 +45,6 @@ module _ {A : Type 0} {k : ℕ} {surd : A → Surd ℤ} (numbers : SurdNumbers k
 
       pub outer_is : IsOuterWalk numbers.ring drawing.vertices drawing.edges outer
       outer_is = outer_walk numbers.ring drawing.vertices drawing.edges (plane numbers drawing set) arena is_linked o below out_at faces outer c
+
+      pub within : AreFacesWithin (length drawing.vertices) faces
+      within = are_within numbers.ring drawing.vertices drawing.edges (plane numbers drawing set) arena is_linked o faces outer c

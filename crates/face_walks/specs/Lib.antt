@@ -8,3 +8,4 @@ pub mod Outside
 pub mod Orders
 pub mod Found
 pub mod Made
+pub mod Fitting

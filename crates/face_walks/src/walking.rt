@@ -5,6 +5,7 @@ ghost use Rattle.scaled_plane.specs.Regions.{IsBounded};
 ghost use Rattle.scaled_plane.specs.Walks.{AreFaces, IsFirstParted, IsOuter, IsOuterWalk};
 ghost use Rattle.scaled_plane.specs.WellSet.{IsWellSet};
 ghost use Rattle.regions.specs.Faces.{AreBoundedRegions, FacesAreBounded, IsConnected, WalkHasAtLeft, WalksHaveRegions};
+ghost use Rattle.face_walks.specs.Fitting.{AreFacesWithin};
 ghost use Rattle.face_walks.specs.Linked.{IsLinked};
 ghost use Rattle.face_walks.specs.Made.{AreMade};
 
@@ -91,6 +92,7 @@ fn linked_walks<W: Whole>(
     ensures linked { IfOk result (λ w. IsLinked W.numbers.ring drawing.now.vertices drawing.now.edges w.arena) }
     ensures faces { IfOk result (λ w. AreFaces W.numbers.ring drawing.now.vertices drawing.now.edges w.faces) }
     ensures outer { IfOk result (λ w. IsOuterWalk W.numbers.ring drawing.now.vertices drawing.now.edges w.outer.corners) }
+    ensures within { IfOk result (λ w. AreFacesWithin (length drawing.now.vertices) w.faces) }
 {
     let Parts {
         mut arena,
@@ -115,6 +117,7 @@ fn walks_of<W: Whole>(alloc: Global, drawing: &Drawing<W>) -> Result<Walks, Walk
     ensures linked { IfOk result (λ w. IsLinked W.numbers.ring drawing.now.vertices drawing.now.edges w.arena) }
     ensures faces { IfOk result (λ w. AreFaces W.numbers.ring drawing.now.vertices drawing.now.edges w.faces) }
     ensures outer { IfOk result (λ w. IsOuterWalk W.numbers.ring drawing.now.vertices drawing.now.edges w.outer.corners) }
+    ensures within { IfOk result (λ w. AreFacesWithin (length drawing.now.vertices) w.faces) }
     ensures joined { OnOk result (IsConnected W.numbers.ring drawing.now.vertices drawing.now.edges) }
     ensures parted { IfErr result (λ e. (v : ℕ) → e ≡ WalkFault.Parted v
         → IsFirstParted drawing.now.edges (length drawing.now.vertices) v) }
@@ -135,6 +138,7 @@ pub fn walks<W: Whole>(alloc: Global, drawing: &Drawing<W>) -> Result<Walks, Wal
     ensures linked { IfOk result (λ w. IsLinked W.numbers.ring drawing.now.vertices drawing.now.edges w.arena) }
     ensures faces { IfOk result (λ w. AreFaces W.numbers.ring drawing.now.vertices drawing.now.edges w.faces) }
     ensures outer { IfOk result (λ w. IsOuter W.numbers.ring drawing.now.vertices drawing.now.edges w.outer) }
+    ensures within { IfOk result (λ w. AreFacesWithin (length drawing.now.vertices) w.faces) }
     ensures joined { OnOk result (IsConnected W.numbers.ring drawing.now.vertices drawing.now.edges) }
     ensures parted { IfErr result (λ e. (v : ℕ) → e ≡ WalkFault.Parted v
         → IsFirstParted drawing.now.edges (length drawing.now.vertices) v) }

@@ -6,7 +6,7 @@ use Rattle.face_walks.specs.Headings.{lead}
 use Rattle.face_walks.specs.Outside.{IsLeastPoint, IsOutsideHalf}
 use Rattle.face_walks.specs.Rings.{half_at, ring_at}
 use Rattle.face_walks.proofs.Assembling.{apart, held, out, used, west_differs}
-use Rattle.face_walks.proofs.Walked.{faces_are, is_linked, outer_is}
+use Rattle.face_walks.proofs.Walked.{faces_are, is_linked, outer_is, within}
 use Rattle.face_walks.proofs.walking.linked_walks.Goals as goal
 
 pub outside_half-outside-requires-clause-used : goal.outside_half-outside-requires-clause-used
@@ -65,5 +65,15 @@ returns-clause-outer g c =
     (subst (λ (hs : List (Heading g.row.W.Denot)). IsOutsideHalf g.W.Whole.numbers.ring c.as_slice.result.now c.args.parts.rings hs c.outside_half-outside.result.0)
     c.as_slice-2.ensures.value c.outside_half-outside.ensures) in
     outer_is g.W.Whole.numbers c.args.drawing.now c.requires.well_set c.args.parts.arena c.args.parts.headings.items c.args.parts.rings c.requires.made
+    c.link.new.arena c.len-count.ensures.arena c.link.ensures.payloads c.link.ensures.as_many c.link.ensures.round
+    c.outside_half-outside.result.0 out c.in_ok-faces.faces c.in_ok-faces.outer.corners c.in_ok-faces.ensures
+
+pub returns-clause-within : goal.returns-clause-within
+returns-clause-within g c =
+    let out : IsOutsideHalf g.W.Whole.numbers.ring c.args.drawing.now.vertices c.args.parts.rings c.args.parts.headings.items c.outside_half-outside.result.0
+    = subst (λ (ps : List (Point g.row.W.Denot)). IsOutsideHalf g.W.Whole.numbers.ring ps c.args.parts.rings c.args.parts.headings.items c.outside_half-outside.result.0) c.as_slice.ensures
+    (subst (λ (hs : List (Heading g.row.W.Denot)). IsOutsideHalf g.W.Whole.numbers.ring c.as_slice.result.now c.args.parts.rings hs c.outside_half-outside.result.0)
+    c.as_slice-2.ensures.value c.outside_half-outside.ensures) in
+    within g.W.Whole.numbers c.args.drawing.now c.requires.well_set c.args.parts.arena c.args.parts.headings.items c.args.parts.rings c.requires.made
     c.link.new.arena c.len-count.ensures.arena c.link.ensures.payloads c.link.ensures.as_many c.link.ensures.round
     c.outside_half-outside.result.0 out c.in_ok-faces.faces c.in_ok-faces.outer.corners c.in_ok-faces.ensures
