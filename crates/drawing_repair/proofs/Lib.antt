@@ -7,3 +7,4 @@ pub mod SamePoints
 pub mod SameWalks
 pub mod OneScaling
 pub mod OneDrawing
+pub mod Found

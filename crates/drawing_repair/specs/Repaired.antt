@@ -19,6 +19,7 @@ use Rattle.scaled_plane.specs.Pieces.{ArePieces, AreVertices}
 use Rattle.scaled_plane.specs.Scaling.{IsFirstOf, IsScaledOf, IsTooWide}
 use Rattle.scaled_plane.specs.Walks.{AreFaces, IsFirstParted}
 use Rattle.regions.specs.Faces.{AreBoundedRegions, IsConnected}
+use Rattle.face_walks.specs.Fitting.{AreFacesWithin}
 use Rattle.drawing_repair.specs.Kept.{kept_segments}
 use Rattle.drawing_repair.specs.declared.answer.Repaired.{Repaired}
 use Rattle.drawing_repair.specs.declared.answer.RepairFault.{RepairFault}
@@ -80,7 +81,14 @@ module _ {N W : Type 0} {k : ℕ} {surd : W → Surd ℤ} (parts : N → Parts) 
         × (faces ≡ Find) × AreDrawn scaled vertices drawn × IsFirstParted drawn.edges (length vertices) v
     IsRefusal (Memory error) = ⊥
 
-    -- the faces that are found are the bounded regions of the drawing, each once
-    abbrev pub HasBoundedRegions : Repaired N → Type 0
-    HasBoundedRegions answer = (found : List Face) → answer.faces ≡ Some found → (scaled : Scaled W) × (vertices : List (Point W))
-        × AreDrawn scaled vertices answer.ends × AreBoundedRegions numbers.ring vertices answer.ends.edges found
+  -- The faces that are found are the face walks of the drawing, whose vertices and scale are as
+  -- above; the drawing isn't parted, and they are its bounded regions, each once.
+  abbrev pub HasBoundedRegions : Repaired N → Type 0
+  HasBoundedRegions answer = (found : List Face) → answer.faces ≡ Some found → (scaled : Scaled W) × (vertices : List (Point W))
+      × AreDrawn scaled vertices answer.ends × IsConnected numbers.ring vertices answer.ends.edges
+      × AreFaces numbers.ring vertices answer.ends.edges found × AreBoundedRegions numbers.ring vertices answer.ends.edges found
+
+-- the corners of the faces that are found are among so many vertices, and ids can tell them all
+abbrev pub AreFoundWithin : ℕ → Option (List Face) → Type 0
+AreFoundWithin vertices None = Unit {0}
+AreFoundWithin vertices (Some found) = AreFacesWithin vertices found

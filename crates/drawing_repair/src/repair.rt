@@ -4,7 +4,7 @@ ghost use Rattle.scaled_plane.specs.declared.drawing.Face.{Face as AnyFace};
 ghost use Rattle.scaled_plane.specs.Walks.{IsFirstParted};
 ghost use Rattle.scaled_plane.specs.WellSet.{IsWellSet};
 ghost use Rattle.drawing_repair.specs.Kept.{AreInRange};
-ghost use Rattle.drawing_repair.specs.Repaired.{AreFacesOf, HasBoundedRegions, IsMemory, IsRefusal, IsRepaired};
+ghost use Rattle.drawing_repair.specs.Repaired.{AreFacesOf, AreFoundWithin, HasBoundedRegions, IsMemory, IsRefusal, IsRepaired};
 ghost use Rattle.drawing_repair.specs.declared.answer.Stage.TheVariants.{Drawn};
 ghost use Rattle.drawing_repair.specs.declared.options.Faces.TheVariants.{Find};
 
@@ -28,6 +28,7 @@ fn faces_of<W: Whole>(
     ensures faces { IfOk result (AreFacesOf W.numbers.ring drawing.now.vertices drawing.now.edges faces) }
     ensures regions { IfOk result (λ found. (listed : Listed AnyFace) → found ≡ Some listed
         → AreBoundedRegions W.numbers.ring drawing.now.vertices drawing.now.edges listed) }
+    ensures within { IfOk result (AreFoundWithin (length drawing.now.vertices)) }
     ensures parted { IfErr result (λ e. IsMemory e ⊎ ((v : ℕ) × (e ≡ RepairFault.Parted v) × (faces ≡ Find)
         × IsFirstParted drawing.now.edges (length drawing.now.vertices) v)) }
 {
@@ -56,7 +57,8 @@ pub fn repair_ends<N: Exact>(
 
     // the first reason that holds why there is no drawing, or want of memory
     ensures refused { IfErr result (λ e. IsMemory e ⊎ IsRefusal N.parts N.Ring.numbers flat ends.now faces e) }
-    ensures regions { IfOk result (HasBoundedRegions N.parts N.Ring.numbers flat ends.now faces) }
+    ensures regions { IfOk result (HasBoundedRegions N.parts N.Ring.numbers flat ends.now) }
+    ensures within { IfOk result (λ r. AreFoundWithin (length r.ends.coords) r.faces) }
     ensures rational { N.ROOT ≡ 1 → IfErr result (λ e. (v : ℕ) → ¬ (e ≡ RepairFault.TooWide v Drawn)) }
 {
     let (scaled, drawing) = cut_ends(alloc, ends, flat)?;

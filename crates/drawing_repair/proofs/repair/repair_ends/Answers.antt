@@ -1,13 +1,15 @@
-use Rattle.std.proofs.Common.{ℤ, List, inl, inr, of_z, rules, subst, sym, to_z}
+use Rattle.std.proofs.Common.{◌≡◌, ◌∙◌, ℕ, ℤ, List, ap, inl, inr, length, of_z, rules, subst, sym, to_z}
 use Rattle.std.specs.Int.{w128}
 use Rattle.std.proofs.lemmas.Int.{to_z-of_z}
 use Rattle.std.proofs.lemmas.Result.{err_from_is_err_and}
+use Rattle.std.proofs.lemmas.Slice.Zip.{AllZip-long}
 use Rattle.std.specs.Prelude.{Contains}
 use Rattle.plane.specs.declared.point.Point.{Point}
 use Rattle.scaled_plane.specs.Drawn.{IsDrawn}
 use Rattle.scaled_plane.specs.Scaling.{IsFirstOf}
-use Rattle.drawing_repair.specs.Repaired.{IsRefusal, IsWideDrawn}
+use Rattle.drawing_repair.specs.Repaired.{AreFoundWithin, IsRefusal, IsWideDrawn}
 use Rattle.drawing_repair.proofs.Exact.{drawn_coords}
+use Rattle.drawing_repair.proofs.Found.{found_walks}
 use Rattle.drawing_repair.proofs.repair.repair_ends.Goals as goal
 
 pub returns-in_err-scaled-clause-refused : goal.returns-in_err-scaled-clause-refused
@@ -68,4 +70,11 @@ returns-clause-regions g c = λ found e.
     let cut = c.in_ok-scaled.ensures.cut in
     let is = to_z-of_z w128 scaled.common (search rules) in
     let coords = drawn_coords _ numbers c.as_slice.result.now drawing.vertices _ scaled.common c.in_ok-coords.coords c.as_slice.ensures is c.in_ok-coords.ensures.coords in
-    (scaled, drawing.vertices, record { cut = cut.cut; few = cut.few; coords = coords; pieces = cut.pieces }, c.in_ok-faces.ensures.regions found e)
+    let walks = found_walks numbers.ring drawing.vertices drawing.edges c.args.faces c.in_ok-faces.faces c.in_ok-faces.ensures.faces found e in
+    (scaled, drawing.vertices, record { cut = cut.cut; few = cut.few; coords = coords; pieces = cut.pieces }, walks.0, walks.1, c.in_ok-faces.ensures.regions found e)
+
+pub returns-clause-within : goal.returns-clause-within
+returns-clause-within g c =
+    let long : length c.in_ok-coords.coords ≡ length c.as_slice.result.now
+    = AllZip-long _ c.as_slice.result.now c.in_ok-coords.coords c.in_ok-coords.ensures.coords in
+    subst (λ (n : ℕ). AreFoundWithin n c.in_ok-faces.faces) (sym (long ∙ ap length c.as_slice.ensures)) c.in_ok-faces.ensures.within
