@@ -9,3 +9,4 @@ pub mod Flaws
 pub mod Walking
 pub mod Triangle
 pub mod Counted
+pub mod Regional

@@ -10,7 +10,9 @@ use Rattle.scaled_plane.specs.declared.point.Segment.{Segment}
 use Rattle.scaled_plane.specs.declared.drawing.Edge.{Edge}
 use Rattle.scaled_plane.specs.declared.drawing.Face.{Face}
 use Rattle.scaled_plane.specs.Pieces.{AreLines, ArePieces, AreVertices}
+use Rattle.scaled_plane.specs.Regions.{IsOff}
 use Rattle.scaled_plane.specs.Walks.{ComesAfter}
+use Rattle.regions.specs.Faces.{WalkHasAtLeft}
 
 -- the point (x, y)
 abbrev pub at : ℤ → ℤ → Point ℤ
@@ -46,3 +48,12 @@ pub record AreCutInto (segments : List (Segment ℤ)) (vertices : List (Point �
 -- for each u, v, w of the list: after the directed piece (u, v) comes (v, w)
 pub record FollowAs (vertices : List (Point ℤ)) (edges : List Edge) (table : List (ℕ × ℕ × ℕ)) : Type 0 where
   pub each : AllByRecursion (λ t. ComesAfter integers vertices edges t.0 t.1 t.2) table
+
+-- the point lies on no piece, and the walk through these corners has its region at the left
+pub record HasRegionOf (vertices : List (Point ℤ)) (edges : List Edge) (corners : List ℕ) (q : Point ℤ) : Type 0 where
+  pub off : IsOff integers vertices edges q
+  pub at_left : WalkHasAtLeft integers vertices edges corners q
+
+-- for each list of corners and point of the table: the walk has the region of the point at its left
+pub record HaveRegionsOf (vertices : List (Point ℤ)) (edges : List Edge) (table : List (List ℕ × Point ℤ)) : Type 0 where
+  pub each : AllByRecursion (λ t. HasRegionOf vertices edges t.0 t.1) table

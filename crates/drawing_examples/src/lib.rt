@@ -9,7 +9,7 @@ ghost use Rattle.scaled_plane.specs.Counts.{tests_for};
 ghost use Rattle.scaled_plane.specs.Sheets.{HasFlaw, IsSheet};
 ghost use Rattle.regions.specs.Triangle.{corners, sides};
 ghost use Rattle.scaled_plane.specs.declared.sheet.SheetFlaw.TheVariants.{SameVertex, Loose, NotPlane, Parted, EmptySheet, FaceWrong, FaceMissing, NotConvex, BorderWrong, Pinched, Severed};
-ghost use Rattle.drawing_examples.specs.Examples.{AreCutInto, FollowAs, at, crease, edge, face, over, uprights};
+ghost use Rattle.drawing_examples.specs.Examples.{AreCutInto, FollowAs, HaveRegionsOf, at, crease, edge, face, over, uprights};
 
 /// What small drawings are cut into: their vertices in order, their pieces with the letters that are left of those that cover
 /// each, and the line of each piece.
@@ -121,6 +121,27 @@ pub fn following_pieces()
         edge 2 3 Valley ∷ edge 2 4 Mountain ∷ edge 3 4 Border ∷ [])
         ((0, 1, 4) ∷ (0, 2, 1) ∷ (0, 3, 2) ∷ (1, 0, 2) ∷ (1, 2, 4) ∷ (1, 4, 3) ∷ (2, 0, 3) ∷ (2, 1, 0) ∷
         (2, 3, 4) ∷ (2, 4, 1) ∷ (3, 0, 1) ∷ (3, 2, 0) ∷ (3, 4, 2) ∷ (4, 1, 2) ∷ (4, 2, 3) ∷ (4, 3, 0) ∷ []) }
+{}
+
+/// Whose region each face has at its left, by a point of it: the faces of the crossed square, and those of the rectangle that
+/// two creases along one line cut in two.
+pub fn regions_of_faces()
+    ensures diagonals { HaveRegionsOf
+        (at (pos 0) (pos 0) ∷ at (pos 0) (pos 1) ∷ over (pos 1) (pos 1) (pos 2) ∷ at (pos 1) (pos 0) ∷
+        at (pos 1) (pos 1) ∷ [])
+        (edge 0 1 Border ∷ edge 0 2 Mountain ∷ edge 0 3 Border ∷ edge 1 2 Valley ∷ edge 1 4 Border ∷
+        edge 2 3 Valley ∷ edge 2 4 Mountain ∷ edge 3 4 Border ∷ [])
+        ((0 ∷ 2 ∷ 1 ∷ [], over (pos 1) (pos 2) (pos 4)) ∷
+        (0 ∷ 3 ∷ 2 ∷ [], over (pos 2) (pos 1) (pos 4)) ∷
+        (1 ∷ 2 ∷ 4 ∷ [], over (pos 2) (pos 3) (pos 4)) ∷
+        (2 ∷ 3 ∷ 4 ∷ [], over (pos 3) (pos 2) (pos 4)) ∷ []) }
+    ensures overlap { HaveRegionsOf
+        (at (pos 0) (negsuc 0) ∷ at (pos 0) (pos 0) ∷ at (pos 0) (pos 1) ∷ at (pos 1) (pos 0) ∷
+        at (pos 2) (pos 0) ∷ at (pos 3) (negsuc 0) ∷ at (pos 3) (pos 0) ∷ at (pos 3) (pos 1) ∷ [])
+        (edge 0 1 Border ∷ edge 0 5 Border ∷ edge 1 2 Border ∷ edge 1 3 Mountain ∷ edge 2 7 Border ∷
+        edge 3 4 Unassigned ∷ edge 4 6 Valley ∷ edge 5 6 Border ∷ edge 6 7 Border ∷ [])
+        ((0 ∷ 5 ∷ 6 ∷ 4 ∷ 3 ∷ 1 ∷ [], over (pos 2) (negsuc 0) (pos 2)) ∷
+        (1 ∷ 3 ∷ 4 ∷ 6 ∷ 7 ∷ 2 ∷ [], over (pos 2) (pos 1) (pos 2)) ∷ []) }
 {}
 
 /// What keeps vertices, edges and faces from being a sheet, at an example or two for each line of the table.

@@ -40,6 +40,7 @@ const DIAGONALS: [Crease; 6] = [
     ((0, 1), (1, 0), V),
 ];
 
+// that each has the region of that point at its left is a clause of `drawing_examples`, `regions_of_faces`
 #[test]
 fn diagonals_have_four_faces(rt: HostRuntime) -> Result<(), Fail> {
     let faces = [
