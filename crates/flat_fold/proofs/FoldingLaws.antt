@@ -62,7 +62,7 @@ module _ {A : Type 0} (F : OrderedField A) where
       let zero : F.sub b a ≡ F.int (pos 0) = ring_from F.ring (a ∷ b ∷ []) (multiple (F.int (negsuc 0)) (search reads depth 40 fits 50000) (search reads depth 40 fits 50000) (search reads depth 40 fits 50000) e no_equation) (search reads depth 40 fits 50000) (search reads depth 40 fits 50000) tt in
       ap F.sign zero ∙ F.sign_int (pos 0)
 
-  same_or_not : (a b : A) (o : Ordering) → F.sign (F.sub b a) ≡ o → (a ≡ b) ⊎ ¬ (a ≡ b)
+  pub same_or_not : (a b : A) (o : Ordering) → F.sign (F.sub b a) ≡ o → (a ≡ b) ⊎ ¬ (a ≡ b)
   same_or_not a b Equal h = inl (no_difference F a b h)
   same_or_not a b Less h = inr (λ e. let zero : F.sign (F.sub b a) ≡ Equal = no_sign_of_same a b e in cc)
   same_or_not a b Greater h = inr (λ e. let zero : F.sign (F.sub b a) ≡ Equal = no_sign_of_same a b e in cc)
@@ -75,7 +75,7 @@ module _ {A : Type 0} (F : OrderedField A) where
       at (inr x) y = inr (λ e. x (ap (λ (w : Pair A). w.x) e))
       at (inl x) (inr y) = inr (λ e. y (ap (λ (w : Pair A). w.y) e))
 
-  same_turn_or_not : (t u : Bool) → (t ≡ u) ⊎ ¬ (t ≡ u)
+  pub same_turn_or_not : (t u : Bool) → (t ≡ u) ⊎ ¬ (t ≡ u)
   same_turn_or_not false false = inl refl
   same_turn_or_not true true = inl refl
   same_turn_or_not false true = inr (λ e. cc)

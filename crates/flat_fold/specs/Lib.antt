@@ -2,7 +2,15 @@ pub mod Computed
 pub mod Motions
 pub mod Operations
 pub mod Faces
+pub mod Folded
+pub mod Making
+pub mod Images
+pub mod Places
+pub mod Numbers
 pub mod Folding
 pub mod Rounds
 pub mod PathMaps
+pub mod Sheets
+pub mod EdgeSides
+pub mod EdgeImages
 pub mod Triangle

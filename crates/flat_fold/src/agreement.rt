@@ -1,16 +1,15 @@
-ghost use Rattle.std.specs.Prelude.{◌≡◌, ◌<◌, ◌^◌, ◌↔◌, ℕ, length, true, false, IsTrue, MatchOption, Some};
+ghost use Rattle.std.specs.Prelude.{◌≡◌, ◌<◌, ◌↔◌, ℕ, length, true, false, IsTrue, MatchOption, Some};
 ghost use Rattle.flat_fold.specs.PathMaps.{ArePathMaps};
 ghost use Rattle.flat_fold.specs.Rounds.{IsCrossing, KnowsCrossings};
 ghost use Rattle.flat_fold.specs.Computed.{Fits, exact};
-ghost use Rattle.flat_fold.specs.Folding.{AgreeAt, AllFits, Disagrees, IsFirstDisagreeing, IsFoldable};
+ghost use Rattle.flat_fold.specs.Folding.{AgreeAt, AllFits, Disagrees, IsFirstDisagreeing};
 ghost use Rattle.flat_fold.specs.Motions.{place};
 ghost use Rattle.flat_fold.specs.Operations.{placing};
 
 use crate::levels::{Between, folds};
 use crate::motion::Motion;
-use crate::sheet::Sheet;
+use crate::sheet::{PlacedEdge, Sheet};
 use exact_number::Exact;
-use fold_base::Letter;
 use scaled_plane::Pair;
 
 /// Whether two numbers are one.
@@ -47,22 +46,21 @@ fn placed_alike<N: Exact>(m: Motion<N>, n: Motion<N>, a: Pair<N>) -> bool
 
 /// Whether the maps of the two faces of an edge agree at it.
 #[tactic(none)]
-pub fn agree<N: Exact>(letter: Letter, a: Pair<N>, b: Pair<N>, m: Motion<N>, n: Motion<N>) -> bool
-    requires from_first { Fits (placing (exact N.numbers) m a) }
-    requires from_second { Fits (placing (exact N.numbers) n a) }
-    requires to_first { Fits (placing (exact N.numbers) m b) }
-    requires to_second { Fits (placing (exact N.numbers) n b) }
-    ensures { IsTrue result ↔ AgreeAt N.numbers.field letter a b m n }
+pub fn agree<N: Exact>(edge: PlacedEdge<N>, m: Motion<N>, n: Motion<N>) -> bool
+    requires from_first { Fits (placing (exact N.numbers) m edge.from) }
+    requires from_second { Fits (placing (exact N.numbers) n edge.from) }
+    requires to_first { Fits (placing (exact N.numbers) m edge.to) }
+    requires to_second { Fits (placing (exact N.numbers) n edge.to) }
+    ensures { IsTrue result ↔ AgreeAt N.numbers.field edge.letter edge.from edge.to m n }
 {
-    let from = placed_alike(m, n, a);
-    let to = placed_alike(m, n, b);
-    let turns = (m.turned != n.turned) == folds(letter);
+    let from = placed_alike(m, n, edge.from);
+    let to = placed_alike(m, n, edge.to);
+    let turns = (m.turned != n.turned) == folds(edge.letter);
     from & to & turns
 }
 
 /// Whether the path maps of the two faces of the edge `e` agree at it.
 pub fn agrees_at<N: Exact>(sheet: &Sheet<N>, maps: &[Motion<N>], e: usize, faces: Between) -> bool
-    requires foldable { IsFoldable N.numbers.field sheet.now.ends.coords sheet.now.ends.edges sheet.now.faces }
     requires edge { e < length sheet.now.ends.edges }
     requires crossing { IsCrossing sheet.now.ends.edges sheet.now.faces e (Some faces) }
     requires maps { ArePathMaps (exact N.numbers) sheet.now.ends.coords sheet.now.ends.edges sheet.now.faces maps.now }
@@ -70,13 +68,9 @@ pub fn agrees_at<N: Exact>(sheet: &Sheet<N>, maps: &[Motion<N>], e: usize, faces
     ensures agrees { result ≡ true → ¬ Disagrees (exact N.numbers) sheet.now.ends.coords sheet.now.ends.edges sheet.now.faces e }
     ensures disagrees { result ≡ false → Disagrees (exact N.numbers) sheet.now.ends.coords sheet.now.ends.edges sheet.now.faces e }
 {
-    let edge = sheet.ends.edges.as_slice()[e];
-    let coords = sheet.ends.coords.as_slice();
-    let a = coords[edge.from as usize];
-    let b = coords[edge.to as usize];
     let first = maps[faces.first as usize];
     let second = maps[faces.second as usize];
-    agree(edge.letter, a, b, first, second)
+    agree(sheet.edge(e), first, second)
 }
 
 /// Whether the edge `e` leads nowhere, or the path maps of its two faces agree at it.
@@ -87,7 +81,6 @@ fn agrees_where_crossed<N: Exact>(
     e: usize,
     crossing: Option<Between>,
 ) -> bool
-    requires foldable { IsFoldable N.numbers.field sheet.now.ends.coords sheet.now.ends.edges sheet.now.faces }
     requires edge { e < length sheet.now.ends.edges }
     requires crossing { IsCrossing sheet.now.ends.edges sheet.now.faces e crossing }
     requires maps { ArePathMaps (exact N.numbers) sheet.now.ends.coords sheet.now.ends.edges sheet.now.faces maps.now }
@@ -107,16 +100,14 @@ pub fn first_disagreeing<N: Exact>(
     crossings: &[Option<Between>],
     maps: &[Motion<N>],
 ) -> Option<u32>
-    requires foldable { IsFoldable N.numbers.field sheet.now.ends.coords sheet.now.ends.edges sheet.now.faces }
     requires known { KnowsCrossings sheet.now.ends.edges sheet.now.faces crossings.now }
-    requires few { length sheet.now.ends.edges < 2 ^ 31 }
     requires maps { ArePathMaps (exact N.numbers) sheet.now.ends.coords sheet.now.ends.edges sheet.now.faces maps.now }
     requires fits { AllFits (exact N.numbers) sheet.now.ends.coords sheet.now.ends.edges sheet.now.faces }
     ensures { MatchOption result ((e : ℕ) → ¬ Disagrees (exact N.numbers) sheet.now.ends.coords sheet.now.ends.edges sheet.now.faces e)
         (IsFirstDisagreeing (exact N.numbers) sheet.now.ends.coords sheet.now.ends.edges sheet.now.faces) }
 {
-    for (e, crossing) in crossings.iter().enumerate() {
-        let agrees = agrees_where_crossed(sheet, maps, e, *crossing);
+    for e in 0..sheet.ends().edges.len() {
+        let agrees = agrees_where_crossed(sheet, maps, e, crossings[e]);
         if !agrees {
             return Some(e as u32);
         }

@@ -1,14 +1,27 @@
-ghost use Rattle.std.specs.Prelude.{◌≡◌, ◌↔◌, ◌<◌, ℕ, List, length};
+ghost use Rattle.std.specs.Prelude.{◌≡◌, ◌↔◌, ◌<◌, ℕ, List, None, length};
+ghost use Rattle.fold_base.specs.declared.letter.Letter.TheVariants.{Border};
 ghost use Rattle.algebra.specs.OrderedField.{OrderedField};
 ghost use Rattle.flat_fold.specs.Computed.{Computed, ComputedField};
-ghost use Rattle.flat_fold.specs.Faces.{IsWalk};
-ghost use Rattle.flat_fold.specs.Folding.{IsFoldable, IsPathMap, Closes, Disagrees, GoesRound, point, walk_map};
+ghost use Rattle.flat_fold.specs.declared.sides.Sides.{Sides as AnySides};
+ghost use Rattle.flat_fold.specs.EdgeSides.{HasSides, KnowsSides};
+ghost use Rattle.flat_fold.specs.Faces.{IsWalk, corners_at, edge_at};
+ghost use Rattle.flat_fold.specs.Folded.{IsFirstPlacePast, IsFolding};
+ghost use Rattle.flat_fold.specs.Images.{AreImages, AreNumbers, corner_at};
+ghost use Rattle.flat_fold.specs.declared.images.Origin.{Origin as AnyOrigin};
+ghost use Rattle.flat_fold.specs.Folding.{IsFoldable, IsPathMap, Closes, Disagrees, GoesRound, IsFirstDisagreeing, IsFirstMapPast, point, walk_map};
 ghost use Rattle.flat_fold.specs.Motions.{place, identity, composed, reflection, IsIsometry, IsOnLine, squared_distance, doubled_area, handedness};
+ghost use Rattle.flat_fold.specs.PathMaps.{ArePathMaps};
+ghost use Rattle.flat_fold.specs.Sheets.{FormSheet, drawing_of, unfolded_face};
+ghost use Rattle.layers.specs.Folded.{IsConvex};
+ghost use Rattle.regions.specs.Faces.{IsConnected, IsPlane};
+ghost use Rattle.scaled_plane.specs.Sheets.{HasSide};
+ghost use Rattle.scaled_plane.specs.WellSet.{IsWellSet};
 ghost use Rattle.flat_fold.specs.Triangle.{triangle_edges, triangle_faces};
 ghost use Rattle.flat_fold.specs.Operations.{placing, composing, reflecting};
 
 use crate::motion::Motion;
-use scaled_plane::{Edge, Face, Pair};
+use exact_number::Exact;
+use scaled_plane::{Edge, Ends, Face, Pair};
 
 /// The operations come to the places and maps that they are named for.
 pub fn operations<T>()
@@ -70,4 +83,73 @@ pub fn closing<T>()
 /// A triangle with its face is foldable: what folding asks can be met.
 pub fn triangle_is_foldable<T>()
     ensures { (F : OrderedField T) (coords : List (Pair T)) → length coords ≡ 3 → IsFoldable F coords triangle_edges triangle_faces }
+{}
+
+/// A sheet is foldable: of its type comes all that folding asks.
+pub fn sheets_are_foldable<N: Exact>()
+    ensures { (ends : Ends N) (faces : List Face) → FormSheet N.parts N.Ring.numbers ends faces
+        → IsFoldable N.numbers.field ends.coords ends.edges faces }
+{}
+
+/// The drawing of a sheet is plane and connected, and well set with each edge on the line through its own ends. Its points are
+/// those to which the sheet's vertices are scaled.
+pub fn sheets_are_well_set<N: Exact>()
+    ensures plane { (ends : Ends N) (faces : List Face) (h : FormSheet N.parts N.Ring.numbers ends faces)
+        → IsPlane N.Ring.numbers.ring h.scaled.points ends.edges }
+    ensures connected { (ends : Ends N) (faces : List Face) (h : FormSheet N.parts N.Ring.numbers ends faces)
+        → IsConnected N.Ring.numbers.ring h.scaled.points ends.edges }
+    ensures well_set { (ends : Ends N) (faces : List Face) (h : FormSheet N.parts N.Ring.numbers ends faces)
+        → IsWellSet N.Ring.numbers (drawing_of h.scaled.points ends.edges) }
+{}
+
+/// Each edge of a sheet is a side of some face: of one face where its letter is B, and where it isn't, of two, one on either
+/// side.
+pub fn each_edge_has_a_face<N: Exact>()
+    ensures some { (ends : Ends N) (faces : List Face) → FormSheet N.parts N.Ring.numbers ends faces → (e : ℕ) → e < length ends.edges
+        → (sides : AnySides) → HasSides faces (edge_at ends.edges e) sides → ¬ ((sides.left ≡ None) × (sides.right ≡ None)) }
+    ensures border { (ends : Ends N) (faces : List Face) → FormSheet N.parts N.Ring.numbers ends faces → (e : ℕ) → e < length ends.edges
+        → (edge_at ends.edges e).letter ≡ Border → (f g : ℕ) → HasSide faces f (edge_at ends.edges e) → HasSide faces g (edge_at ends.edges e) → f ≡ g }
+    ensures between { (ends : Ends N) (faces : List Face) → FormSheet N.parts N.Ring.numbers ends faces → (e : ℕ) → e < length ends.edges
+        → ¬ ((edge_at ends.edges e).letter ≡ Border) → (sides : AnySides) → HasSides faces (edge_at ends.edges e) sides
+        → ¬ (sides.left ≡ None) × ¬ (sides.right ≡ None) }
+{}
+
+/// Path maps are found in one way: what `path_maps` answers is one, but for want of memory, and so is the least edge that
+/// disagrees.
+pub fn path_maps_are_one<T>()
+    ensures maps { (K : ComputedField T) (coords : List (Pair T)) (edges : List Edge) (faces : List Face) → IsFoldable K.field coords edges faces
+        → (maps others : List (Motion T)) → ArePathMaps K coords edges faces maps → ArePathMaps K coords edges faces others → maps ≡ others }
+    ensures either { (K : ComputedField T) (coords : List (Pair T)) (edges : List Edge) (faces : List Face) → IsFoldable K.field coords edges faces
+        → (maps : List (Motion T)) (f : ℕ) → ArePathMaps K coords edges faces maps → ¬ IsFirstMapPast K coords edges faces f }
+    ensures past { (K : ComputedField T) (coords : List (Pair T)) (edges : List Edge) (faces : List Face) (f g : ℕ)
+        → IsFirstMapPast K coords edges faces f → IsFirstMapPast K coords edges faces g → f ≡ g }
+    ensures disagreeing { (K : ComputedField T) (coords : List (Pair T)) (edges : List Edge) (faces : List Face) (d e : ℕ)
+        → IsFirstDisagreeing K coords edges faces d → IsFirstDisagreeing K coords edges faces e → d ≡ e }
+{}
+
+/// The faces of a sheet are convex: no corner lies outside of a directed piece of its face, and some corner lies inside.
+pub fn faces_of_sheets_are_convex<N: Exact>()
+    ensures { (ends : Ends N) (faces : List Face) (h : FormSheet N.parts N.Ring.numbers ends faces) (f : ℕ) → f < length faces
+        → IsConvex N.Ring.numbers.ring (unfolded_face N.Ring.numbers.ring h.scaled.points (corners_at faces f)) }
+{}
+
+/// The edges of a sheet have one list of sides.
+pub fn one_list_of_sides<N: Exact>()
+    ensures { (ends : Ends N) (faces : List Face) → FormSheet N.parts N.Ring.numbers ends faces → (sides others : List AnySides)
+        → KnowsSides faces ends.edges sides → KnowsSides faces ends.edges others → sides ≡ others }
+{}
+
+/// A sheet is folded in one way: its faces have one map each, its vertices one list of images, its corners one number each;
+/// and the first corner whose place overflows is one.
+pub fn one_folding<T>()
+    ensures folding { (F : OrderedField T) (coords : List (Pair T)) (edges : List Edge) (faces : List Face) → IsFoldable F coords edges faces
+        → (maps : List (Motion T)) (origins : List AnyOrigin) (images : List (Pair T)) (maps' : List (Motion T)) (origins' : List AnyOrigin) (images' : List (Pair T))
+        → IsFolding F coords edges faces maps origins images → IsFolding F coords edges faces maps' origins' images'
+        → (maps ≡ maps') × (origins ≡ origins') × (images ≡ images') }
+    ensures corners { (F : OrderedField T) (coords : List (Pair T)) (faces : List Face) (maps : List (Motion T)) (origins : List AnyOrigin) (images : List (Pair T))
+        → AreImages F coords faces maps origins images → (numbers others : List Face)
+        → AreNumbers F coords faces maps origins images numbers → AreNumbers F coords faces maps origins images others → numbers ≡ others }
+    ensures past { (K : ComputedField T) (coords : List (Pair T)) (edges : List Edge) (faces : List Face) (f k g j : ℕ)
+        → IsFirstPlacePast K coords edges faces f k → IsFirstPlacePast K coords edges faces g j
+        → (f ≡ g) × (corner_at faces f k ≡ corner_at faces g j) }
 {}

@@ -6,10 +6,9 @@ ghost use Rattle.flat_fold.specs.Rounds.{Crosses, IsStepped, IsCrossing, Round, 
 ghost use Rattle.flat_fold.specs.PathMaps.{KeepsMaps, FindsPathMaps};
 
 use crate::motion::Motion;
-use crate::sheet::Sheet;
+use crate::sheet::{PlacedEdge, Sheet};
 use exact_number::{Exact, Overflow};
 use fold_base::{Letter, List};
-use scaled_plane::Pair;
 use std::alloc::{AllocError, Global};
 
 /// A face that is reached from face 0, by the number of edges on the shortest walk to it. It has no map where its path map
@@ -42,19 +41,14 @@ pub fn folds(letter: Letter) -> bool
     }
 }
 
-/// The map of the face beyond an edge from `a` to `b`, from that of the face before.
+/// The map of the face beyond an edge, from that of the face before.
 #[tactic(none)]
-fn step<N: Exact>(
-    letter: Letter,
-    a: Pair<N>,
-    b: Pair<N>,
-    map: Motion<N>,
-) -> Result<Motion<N>, Overflow>
-    requires { ¬ (a ≡ b) }
-    ensures { Answers result (stepping_over (exact N.numbers) letter a b map) }
+fn step<N: Exact>(edge: PlacedEdge<N>, map: Motion<N>) -> Result<Motion<N>, Overflow>
+    requires { ¬ (edge.from ≡ edge.to) }
+    ensures { Answers result (stepping_over (exact N.numbers) edge.letter edge.from edge.to map) }
 {
-    if folds(letter) {
-        let mirror = Motion::reflection(a, b)?;
+    if folds(edge.letter) {
+        let mirror = Motion::reflection(edge.from, edge.to)?;
         map.composed(mirror)
     } else {
         Ok(map)
@@ -63,37 +57,30 @@ fn step<N: Exact>(
 
 /// The map of the face beyond, where there is one.
 #[tactic(none)]
-fn stepped<N: Exact>(
-    letter: Letter,
-    a: Pair<N>,
-    b: Pair<N>,
-    map: Option<Motion<N>>,
-) -> Option<Motion<N>>
-    requires { ¬ (a ≡ b) }
-    ensures { IsStepped (exact N.numbers) letter a b map result }
+fn stepped<N: Exact>(edge: PlacedEdge<N>, map: Option<Motion<N>>) -> Option<Motion<N>>
+    requires { ¬ (edge.from ≡ edge.to) }
+    ensures { IsStepped (exact N.numbers) edge.letter edge.from edge.to map result }
 {
     match map {
-        Some(map) => step(letter, a, b, map).ok(),
+        Some(map) => step(edge, map).ok(),
         None => None,
     }
 }
 
-/// Crosses the edge from `a` to `b`, between two faces, in one round, where the face `to` isn't reached yet and `from` has
-/// this level. Says whether it did.
+/// Crosses the edge between two faces, in one round, where the face `to` isn't reached yet and `from` has this level. Says
+/// whether it did.
 fn cross<N: Exact>(
     reached: &mut [Option<Reached<N>>],
     level: u32,
-    letter: Letter,
-    a: Pair<N>,
-    b: Pair<N>,
+    edge: PlacedEdge<N>,
     from: u32,
     to: u32,
 ) -> bool
-    requires apart { ¬ (a ≡ b) }
+    requires apart { ¬ (edge.from ≡ edge.to) }
     requires levels { level + 1 < 2 ^ 32 }
     requires from_in { from < length reached.old }
     requires to_in { to < length reached.old }
-    ensures { Crosses (exact N.numbers) level letter a b from to reached.old reached.new result }
+    ensures { Crosses (exact N.numbers) level edge.letter edge.from edge.to from to reached.old reached.new result }
 {
     let before = match reached[from as usize] {
         Some(before) => before,
@@ -105,7 +92,7 @@ fn cross<N: Exact>(
     if reached[to as usize].is_some() {
         return false;
     }
-    let map = stepped(letter, a, b, before.map);
+    let map = stepped(edge, before.map);
     reached[to as usize] = Some(Reached {
         level: level + 1,
         map,
@@ -131,12 +118,9 @@ fn cross_both<N: Exact>(
     ensures grew { (if result then 1 else 0) + unreached reached.new ≤ unreached reached.old }
     ensures still { result ≡ false → reached.new ≡ reached.old }
 {
-    let edge = sheet.ends.edges.as_slice()[e];
-    let coords = sheet.ends.coords.as_slice();
-    let a = coords[edge.from as usize];
-    let b = coords[edge.to as usize];
-    let there = cross(reached, level, edge.letter, a, b, faces.first, faces.second);
-    let back = cross(reached, level, edge.letter, a, b, faces.second, faces.first);
+    let edge = sheet.edge(e);
+    let there = cross(reached, level, edge, faces.first, faces.second);
+    let back = cross(reached, level, edge, faces.second, faces.first);
     there | back
 }
 
@@ -294,12 +278,10 @@ pub fn path_maps<N: Exact>(
     sheet: &Sheet<N>,
     crossings: &[Option<Between>],
 ) -> Result<List<Motion<N>>, MapFault>
-    requires foldable { IsFoldable N.numbers.field sheet.now.ends.coords sheet.now.ends.edges sheet.now.faces }
-    requires known { KnowsCrossings sheet.now.ends.edges sheet.now.faces crossings.now }
-    requires few { length sheet.now.faces < 2 ^ 31 }
+    requires { KnowsCrossings sheet.now.ends.edges sheet.now.faces crossings.now }
     ensures { FindsPathMaps (exact N.numbers) sheet.now.ends.coords sheet.now.ends.edges sheet.now.faces result }
 {
-    match face_0_alone(alloc, sheet.faces.len()) {
+    match face_0_alone(alloc, sheet.faces().len()) {
         Ok(mut reached) => maps_from(alloc, sheet, crossings, reached.as_mut_slice()),
         Err(_) => Err(MapFault::Memory(AllocError)),
     }

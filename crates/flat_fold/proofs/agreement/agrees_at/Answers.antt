@@ -7,10 +7,10 @@ use Rattle.scaled_plane.specs.declared.drawing.Edge.{Edge}
 use Rattle.flat_fold.specs.Computed.{ComputedField, Fits, exact}
 use Rattle.flat_fold.specs.Operations.{placing}
 use Rattle.flat_fold.specs.Faces.{edge_at}
-use Rattle.flat_fold.specs.Folding.{point, AgreeAt}
+use Rattle.flat_fold.specs.Folding.{IsFoldable, point, AgreeAt}
 use Rattle.flat_fold.proofs.Walks.{leads-back}
 use Rattle.flat_fold.proofs.FoldingLaws.{leads-in_range}
-use Rattle.flat_fold.proofs.EdgeReads.{read_point}
+use Rattle.flat_fold.proofs.SheetLaws.{foldable-sheet}
 use Rattle.flat_fold.proofs.EdgePlaces.{edge-fits, agreed, disagreed}
 use Rattle.flat_fold.proofs.agreement.agrees_at.Goals as goal
 
@@ -34,24 +34,18 @@ agree-requires g c =
     let h = c.args.faces.second in
     let there = c.requires.crossing.0 in
     let back = leads-back edges faces e f h there in
-    let f_in : f < length faces = leads-in_range edges faces e f h there in
-    let h_in : h < length faces = leads-in_range edges faces e h f back in
-    let M = c.requires.maps.each f c.index-maps-faces.result f_in in
-    let N = c.requires.maps.each h c.index-maps-faces-2.result h_in in
+    let M = c.requires.maps.each f c.index-maps-faces.result (leads-in_range edges faces e f h there) in
+    let N = c.requires.maps.each h c.index-maps-faces-2.result (leads-in_range edges faces e h f back) in
     let m_is : c.index-maps-faces.result ≡ M.0.value = c.index-maps-faces.is ∙ M.3 in
     let n_is : c.index-maps-faces-2.result ≡ N.0.value = c.index-maps-faces-2.is ∙ N.3 in
-    let ends = c.requires.foldable.ends e c.requires.edge in
-    let a_is : c.index-coords-edge.result ≡ point F coords (edge_at edges e).from
-    = read_point F coords c.as_slice-coords.result.now _ (edge_at edges e).from c.index-coords-edge.result c.index-coords-edge.is c.as_slice-coords.ensures (ap (λ (s : List Edge). (edge_at s e).from) c.as_slice.ensures) ends.0 in
-    let b_is : c.index-coords-edge-2.result ≡ point F coords (edge_at edges e).to
-    = read_point F coords c.as_slice-coords.result.now _ (edge_at edges e).to c.index-coords-edge-2.result c.index-coords-edge-2.is c.as_slice-coords.ensures (ap (λ (s : List Edge). (edge_at s e).to) c.as_slice.ensures) ends.1 in
+    let E = c.edge.ensures in
     let first = edge-fits K coords edges faces c.requires.fits e f h M.0 there M.1 in
     let second = edge-fits K coords edges faces c.requires.fits e h f N.0 back N.1 in
     record {
-      from_first = fits_as K c.index-maps-faces.result M.0.value c.index-coords-edge.result (point F coords (edge_at edges e).from) m_is a_is first.0;
-      from_second = fits_as K c.index-maps-faces-2.result N.0.value c.index-coords-edge.result (point F coords (edge_at edges e).from) n_is a_is second.0;
-      to_first = fits_as K c.index-maps-faces.result M.0.value c.index-coords-edge-2.result (point F coords (edge_at edges e).to) m_is b_is first.1;
-      to_second = fits_as K c.index-maps-faces-2.result N.0.value c.index-coords-edge-2.result (point F coords (edge_at edges e).to) n_is b_is second.1;
+      from_first = fits_as K c.index-maps-faces.result M.0.value c.edge.result.from (point F coords (edge_at edges e).from) m_is E.from first.0;
+      from_second = fits_as K c.index-maps-faces-2.result N.0.value c.edge.result.from (point F coords (edge_at edges e).from) n_is E.from second.0;
+      to_first = fits_as K c.index-maps-faces.result M.0.value c.edge.result.to (point F coords (edge_at edges e).to) m_is E.to first.1;
+      to_second = fits_as K c.index-maps-faces-2.result N.0.value c.edge.result.to (point F coords (edge_at edges e).to) n_is E.to second.1;
     }
 
 pub returns-clause-agrees : goal.returns-clause-agrees
@@ -66,22 +60,14 @@ returns-clause-agrees g c t =
     let h = c.args.faces.second in
     let there = c.requires.crossing.0 in
     let back = leads-back edges faces e f h there in
-    let f_in : f < length faces = leads-in_range edges faces e f h there in
-    let h_in : h < length faces = leads-in_range edges faces e h f back in
-    let M = c.requires.maps.each f c.index-maps-faces.result f_in in
-    let N = c.requires.maps.each h c.index-maps-faces-2.result h_in in
+    let M = c.requires.maps.each f c.index-maps-faces.result (leads-in_range edges faces e f h there) in
+    let N = c.requires.maps.each h c.index-maps-faces-2.result (leads-in_range edges faces e h f back) in
     let m_is : c.index-maps-faces.result ≡ M.0.value = c.index-maps-faces.is ∙ M.3 in
     let n_is : c.index-maps-faces-2.result ≡ N.0.value = c.index-maps-faces-2.is ∙ N.3 in
-    let ends = c.requires.foldable.ends e c.requires.edge in
-    let a_is : c.index-coords-edge.result ≡ point F coords (edge_at edges e).from
-    = read_point F coords c.as_slice-coords.result.now _ (edge_at edges e).from c.index-coords-edge.result c.index-coords-edge.is c.as_slice-coords.ensures (ap (λ (s : List Edge). (edge_at s e).from) c.as_slice.ensures) ends.0 in
-    let b_is : c.index-coords-edge-2.result ≡ point F coords (edge_at edges e).to
-    = read_point F coords c.as_slice-coords.result.now _ (edge_at edges e).to c.index-coords-edge-2.result c.index-coords-edge-2.is c.as_slice-coords.ensures (ap (λ (s : List Edge). (edge_at s e).to) c.as_slice.ensures) ends.1 in
-    let letter_is : (edge_at c.as_slice.result.now e).letter ≡ (edge_at edges e).letter = ap (λ (s : List Edge). (edge_at s e).letter) c.as_slice.ensures in
-    let A = point F coords (edge_at edges e).from in
-    let B = point F coords (edge_at edges e).to in
-    agreed K coords edges faces c.requires.foldable e f h there c.requires.crossing.1 M.0 N.0 M.1 N.1
-    (agree_as F (edge_at c.as_slice.result.now e).letter (edge_at edges e).letter c.index-coords-edge.result A c.index-coords-edge-2.result B c.index-maps-faces.result M.0.value c.index-maps-faces-2.result N.0.value letter_is a_is b_is m_is n_is (c.agree.ensures.0 t))
+    let E = c.edge.ensures in
+    let foldable : IsFoldable F coords edges faces = foldable-sheet c.args.sheet.now.ends faces E.sheet F in
+    agreed K coords edges faces foldable e f h there c.requires.crossing.1 M.0 N.0 M.1 N.1
+    (agree_as F _ _ _ _ _ _ _ _ _ _ E.letter E.from E.to m_is n_is (c.agree.ensures.0 t))
 
 not_both : (b : Bool) → b ≡ false → ¬ (b ≡ true)
 not_both true e k = cc
@@ -99,20 +85,11 @@ returns-clause-disagrees g c t =
     let h = c.args.faces.second in
     let there = c.requires.crossing.0 in
     let back = leads-back edges faces e f h there in
-    let f_in : f < length faces = leads-in_range edges faces e f h there in
-    let h_in : h < length faces = leads-in_range edges faces e h f back in
-    let M = c.requires.maps.each f c.index-maps-faces.result f_in in
-    let N = c.requires.maps.each h c.index-maps-faces-2.result h_in in
+    let M = c.requires.maps.each f c.index-maps-faces.result (leads-in_range edges faces e f h there) in
+    let N = c.requires.maps.each h c.index-maps-faces-2.result (leads-in_range edges faces e h f back) in
     let m_is : c.index-maps-faces.result ≡ M.0.value = c.index-maps-faces.is ∙ M.3 in
     let n_is : c.index-maps-faces-2.result ≡ N.0.value = c.index-maps-faces-2.is ∙ N.3 in
-    let ends = c.requires.foldable.ends e c.requires.edge in
-    let a_is : c.index-coords-edge.result ≡ point F coords (edge_at edges e).from
-    = read_point F coords c.as_slice-coords.result.now _ (edge_at edges e).from c.index-coords-edge.result c.index-coords-edge.is c.as_slice-coords.ensures (ap (λ (s : List Edge). (edge_at s e).from) c.as_slice.ensures) ends.0 in
-    let b_is : c.index-coords-edge-2.result ≡ point F coords (edge_at edges e).to
-    = read_point F coords c.as_slice-coords.result.now _ (edge_at edges e).to c.index-coords-edge-2.result c.index-coords-edge-2.is c.as_slice-coords.ensures (ap (λ (s : List Edge). (edge_at s e).to) c.as_slice.ensures) ends.1 in
-    let letter_is : (edge_at c.as_slice.result.now e).letter ≡ (edge_at edges e).letter = ap (λ (s : List Edge). (edge_at s e).letter) c.as_slice.ensures in
-    let A = point F coords (edge_at edges e).from in
-    let B = point F coords (edge_at edges e).to in
-    disagreed K coords edges faces c.requires.foldable e f h there c.requires.crossing.1 M.0 N.0 M.1 N.1
-    (λ a. not_both c.agree.result t (c.agree.ensures.1
-    (agree_as F (edge_at edges e).letter (edge_at c.as_slice.result.now e).letter A c.index-coords-edge.result B c.index-coords-edge-2.result M.0.value c.index-maps-faces.result N.0.value c.index-maps-faces-2.result (sym letter_is) (sym a_is) (sym b_is) (sym m_is) (sym n_is) a)))
+    let E = c.edge.ensures in
+    let foldable : IsFoldable F coords edges faces = foldable-sheet c.args.sheet.now.ends faces E.sheet F in
+    disagreed K coords edges faces foldable e f h there c.requires.crossing.1 M.0 N.0 M.1 N.1
+    (λ a. not_both c.agree.result t (c.agree.ensures.1 (agree_as F _ _ _ _ _ _ _ _ _ _ (sym E.letter) (sym E.from) (sym E.to) (sym m_is) (sym n_is) a)))

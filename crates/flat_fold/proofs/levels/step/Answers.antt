@@ -17,23 +17,23 @@ pub returns-in_err-mirror : goal.returns-in_err-mirror
 unfolding stepping_over
 returns-in_err-mirror g c =
     let K = exact g.N.Exact.numbers in
-    last c.from_residual.result (reflecting K c.args.a c.args.b >>= composing K c.args.map) (stepping_over K c.args.letter c.args.a c.args.b c.args.map)
-    (by_fold (is_crease c.args.letter) true (sym c.folds.ensures ∙ c.if-folds.true) (reflecting K c.args.a c.args.b >>= composing K c.args.map) (at_hand c.args.map))
+    last c.from_residual.result (reflecting K c.args.edge.from c.args.edge.to >>= composing K c.args.map) (stepping_over K c.args.edge.letter c.args.edge.from c.args.edge.to c.args.map)
+    (by_fold (is_crease c.args.edge.letter) true (sym c.folds.ensures ∙ c.if-folds.true) (reflecting K c.args.edge.from c.args.edge.to >>= composing K c.args.map) (at_hand c.args.map))
     (refused c.from_residual.result _ c.from_residual.ensures.0 (first_overflows _ _ c.in_err-mirror.ensures))
 
 pub returns-in_ok-mirror : goal.returns-in_ok-mirror
 unfolding stepping_over
 returns-in_ok-mirror g c =
     let K = exact g.N.Exact.numbers in
-    last c.composed.result (reflecting K c.args.a c.args.b >>= composing K c.args.map) (stepping_over K c.args.letter c.args.a c.args.b c.args.map)
-    (by_fold (is_crease c.args.letter) true (sym c.folds.ensures ∙ c.if-folds.true) (reflecting K c.args.a c.args.b >>= composing K c.args.map) (at_hand c.args.map))
-    (goes_on _ _ c.composed.result (from_value (reflecting K c.args.a c.args.b) (reflecting-value K c.args.a c.args.b) c.in_ok-mirror.ensures)
+    last c.composed.result (reflecting K c.args.edge.from c.args.edge.to >>= composing K c.args.map) (stepping_over K c.args.edge.letter c.args.edge.from c.args.edge.to c.args.map)
+    (by_fold (is_crease c.args.edge.letter) true (sym c.folds.ensures ∙ c.if-folds.true) (reflecting K c.args.edge.from c.args.edge.to >>= composing K c.args.map) (at_hand c.args.map))
+    (goes_on _ _ c.composed.result (from_value (reflecting K c.args.edge.from c.args.edge.to) (reflecting-value K c.args.edge.from c.args.edge.to) c.in_ok-mirror.ensures)
     (came_from c.composed.result (composing K c.args.map c.in_ok-mirror.mirror) (composing-value K c.args.map c.in_ok-mirror.mirror) c.composed.ensures))
 
 pub returns-else-folds : goal.returns-else-folds
 unfolding stepping_over
 returns-else-folds g c =
     let K = exact g.N.Exact.numbers in
-    last {E = Bool} (Ok c.args.map) (at_hand c.args.map) (stepping_over K c.args.letter c.args.a c.args.b c.args.map)
-    (by_fold (is_crease c.args.letter) false (sym c.folds.ensures ∙ c.if-folds.false) (reflecting K c.args.a c.args.b >>= composing K c.args.map) (at_hand c.args.map))
+    last {E = Bool} (Ok c.args.map) (at_hand c.args.map) (stepping_over K c.args.edge.letter c.args.edge.from c.args.edge.to c.args.map)
+    (by_fold (is_crease c.args.edge.letter) false (sym c.folds.ensures ∙ c.if-folds.false) (reflecting K c.args.edge.from c.args.edge.to >>= composing K c.args.map) (at_hand c.args.map))
     (ends refl)
