@@ -1,0 +1,4 @@
+pub mod Same
+pub mod Passed
+pub mod Spans
+pub mod Listed
