@@ -1,5 +1,6 @@
 -- a chain of steps goes on or stops, has one outcome at most, and has one
 use Rattle.std.proofs.Common.{◌≡◌, ◌⊎◌, ℕ, List, Result, Ok, Err, inl, inr, refl, sym, ◌∙◌, subst}
+pub use Rattle.fold_program.specs.Steps.{IsOne}
 use Rattle.fold_program.specs.Steps.{Outcome, Then, Answers, Steps, Follows, Ends, due_with}
 use Rattle.fold_program.specs.declared.status.Status.{Status}
 
@@ -29,10 +30,6 @@ ends_following outcome (Err status) (inl memory) = inl (inr memory)
 ends_following outcome (Err status) (inr h) = inr h.1
 
 -- ---- one outcome at most
-
--- one status and one text
-abbrev pub IsOne : Outcome → Type 0
-IsOne outcome = (s s' : Status) (t t' : List ℕ) → outcome s t → outcome s' t' → (s ≡ s') × (t ≡ t')
 
 -- a step stops in one way at most, gives one value at most, and doesn't do both
 pub record IsStep {X : Type 0} (stops : Status → Type 0) (gives : X → Type 0) : Type 0 where

@@ -8,19 +8,29 @@ use Rattle.std.proofs.lemmas.Slice.Eq.{bytes_eq-Decides}
 use Rattle.std.proofs.lemmas.Bool.{false≢true}
 use Rattle.std.proofs.lemmas.Option.{same_Some}
 use Rattle.clap.specs.Words.{Kinds, Row}
+use Rattle.drawing_repair.specs.declared.options.Faces.{Faces}
+use Rattle.drawing_repair.specs.declared.options.Faces.TheVariants.{Find, Skip}
+use Rattle.drawing_repair.specs.declared.options.Flat.{Flat}
+use Rattle.drawing_repair.specs.declared.options.Flat.TheVariants.{Keep, Drop}
 use Rattle.fold_keys.specs.Elements.{id_in_text}
-use Rattle.fold_program.specs.Words.{Text, NamesFormat, NamesNumber, Says, IsConversion, IsUnbuilt, Mean, MeanShow, MeanConvert, AreTaken, AreWordsOf, AreRefused, Reads, TakeNothing, faults, found, said_in}
+use Rattle.fold_program.specs.NumberOption.{NamesChoice}
+use Rattle.fold_program.specs.declared.number_option.NumberChoice.{NumberChoice}
+use Rattle.fold_program.specs.declared.number_option.NumberChoice.TheVariants.{Exact}
+use Rattle.fold_program.proofs.NumberOption.{choice_one, choice_or_not}
+use Rattle.fold_program.specs.Words.{Text, NamesFaces, NamesFlat, NamesFormat, NamesNumber, Says, IsConversion, Mean, MeanShow, MeanConvert, MeanRepair, AreTaken, AreWordsOf, AreRefused, Reads, TakeNothing, faults, found, said_in}
 use Rattle.fold_program.specs.declared.status.Status.{Status}
 use Rattle.fold_program.specs.declared.status.Status.TheVariants.{Words}
 use Rattle.fold_program.specs.declared.status.WordsCause.TheVariants.{Refused, Value}
 use Rattle.fold_program.specs.declared.words.Command.{Command}
-use Rattle.fold_program.specs.declared.words.Command.TheVariants.{Show, Convert}
+use Rattle.fold_program.specs.declared.words.Command.TheVariants.{Show, Convert, Repair}
 use Rattle.fold_program.specs.declared.words.ConvertOptions.{ConvertOptions}
-use Rattle.fold_program.specs.declared.words.ConvertOptions.TheVariants.{Frame, Lines}
+use Rattle.fold_program.specs.declared.words.ConvertOptions.TheVariants.{Frame, Lines, Drawing}
+use Rattle.fold_program.specs.declared.words.RepairOptions.{RepairOptions}
 use Rattle.fold_program.specs.declared.words.ShowOptions.{ShowOptions}
 use Rattle.fold_program.specs.declared.words.Format.{Format}
 use Rattle.fold_program.specs.declared.words.Format.TheVariants.{Fold, Cp}
 use Rattle.fold_program.proofs.Chain.{Goes, IsStep}
+use Rattle.fold_program.proofs.NumberOption.{choice_one, choice_or_not}
 
 pub same_text : (x y : Text) → (x ≡ y) ⊎ ¬ (x ≡ y)
 same_text x y =
@@ -88,105 +98,202 @@ show_or_not said = elim (says_or_not NamesFormat Fold format_or_not (said (codes
 no_formats : Fold ≡ Cp → ⊥
 no_formats e = cc
 
--- lines aren't converted to a FOLD file
-pub unbuilt : (said : Text → Option Text) (from to : Format)
-    → Says NamesFormat Fold (said (codes "from")) from → Says NamesFormat Fold (said (codes "to")) to
-    → IsUnbuilt from to → (o : ConvertOptions) → ¬ MeanConvert said o
-unbuilt said from to first second un o h =
-    at o h.6
-  where
-    is_from : h.0 ≡ from
-    is_from = says_one NamesFormat Fold format_one (said (codes "from")) h.0 from h.3 first
-
-    is_to : h.1 ≡ to
-    is_to = says_one NamesFormat Fold format_one (said (codes "to")) h.1 to h.4 second
-
-    at : (o : ConvertOptions) → IsConversion h.0 h.1 h.2 o → ⊥
-    at (Frame frame other) c = no_formats (sym c.0 ∙ is_from ∙ un.0)
-    at Lines c = no_formats (sym un.1 ∙ sym is_to ∙ c.1)
-
 convert_or_not : (said : Text → Option Text)
     → ((o : ConvertOptions) × MeanConvert said o) ⊎ ((o : ConvertOptions) → ¬ MeanConvert said o)
 convert_or_not said = elim (says_or_not NamesFormat Fold format_or_not (said (codes "from"))) [
   | inl from ↦ elim (says_or_not NamesFormat Fold format_or_not (said (codes "to"))) [
     | inl to ↦ elim (says_or_not NamesNumber 0 number_or_not (said (codes "frame"))) [
-      | inl frame ↦ by from.0 to.0 frame.0 from.1 to.1 frame.1
-      | inr none ↦ inr (λ o h. none h.2 h.5)
+      | inl frame ↦ elim (says_or_not NamesChoice Exact choice_or_not (said (codes "number"))) [
+        | inl number ↦ inl (by from.0 to.0 frame.0 number.0 from.1 to.1 frame.1 number.1)
+        | inr none ↦ inr (λ o h. none h.3 h.7)
+      ]
+      | inr none ↦ inr (λ o h. none h.2 h.6)
     ]
-    | inr none ↦ inr (λ o h. none h.1 h.4)
+    | inr none ↦ inr (λ o h. none h.1 h.5)
   ]
-  | inr none ↦ inr (λ o h. none h.0 h.3)
+  | inr none ↦ inr (λ o h. none h.0 h.4)
 ]
   where
-    by : (from to : Format) (frame : ℕ) → Says NamesFormat Fold (said (codes "from")) from
+    by : (from to : Format) (frame : ℕ) (number : NumberChoice) → Says NamesFormat Fold (said (codes "from")) from
         → Says NamesFormat Fold (said (codes "to")) to → Says NamesNumber 0 (said (codes "frame")) frame
-        → ((o : ConvertOptions) × MeanConvert said o) ⊎ ((o : ConvertOptions) → ¬ MeanConvert said o)
-    by Fold to frame a b c = inl (Frame frame to, (Fold, to, frame, a, b, c, (refl, refl, refl)))
-    by Cp Cp frame a b c = inl (Lines, (Cp, Cp, frame, a, b, c, (refl, refl)))
-    by Cp Fold frame a b c = inr (unbuilt said Cp Fold a b (refl, refl))
+        → Says NamesChoice Exact (said (codes "number")) number → (o : ConvertOptions) × MeanConvert said o
+    by Fold to frame number a b c d = (Frame frame to, (Fold, to, frame, number, a, b, c, d, (refl, refl, refl)))
+    by Cp Cp frame number a b c d = (Lines, (Cp, Cp, frame, number, a, b, c, d, (refl, refl)))
+    by Cp Fold frame number a b c d = (Drawing number, (Cp, Fold, frame, number, a, b, c, d, (refl, refl, refl)))
 
-one_conversion : (from to : Format) (frame : ℕ) (o p : ConvertOptions) → IsConversion from to frame o
-    → IsConversion from to frame p → o ≡ p
-one_conversion from to frame (Frame m s) (Frame n t) a b =
-    let number : m ≡ n = sym a.2 ∙ b.2 in
-    let format : s ≡ t = sym a.1 ∙ b.1 in (λ i. Frame (number i) (format i))
-one_conversion from to frame (Frame m s) Lines a b = absurd (no_formats (sym a.0 ∙ b.0))
-one_conversion from to frame Lines (Frame n t) a b = absurd (no_formats (sym b.0 ∙ a.0))
-one_conversion from to frame Lines Lines a b = refl
+one_conversion : (from to : Format) (frame : ℕ) (number : NumberChoice) (o p : ConvertOptions)
+    → IsConversion from to frame number o → IsConversion from to frame number p → o ≡ p
+one_conversion from to frame number (Frame m s) (Frame n t) a b =
+    let place : m ≡ n = sym a.2 ∙ b.2 in
+    let format : s ≡ t = sym a.1 ∙ b.1 in (λ i. Frame (place i) (format i))
+one_conversion from to frame number (Frame m s) Lines a b = absurd (no_formats (sym a.0 ∙ b.0))
+one_conversion from to frame number (Frame m s) (Drawing c) a b = absurd (no_formats (sym a.0 ∙ b.0))
+one_conversion from to frame number Lines (Frame n t) a b = absurd (no_formats (sym b.0 ∙ a.0))
+one_conversion from to frame number Lines Lines a b = refl
+one_conversion from to frame number Lines (Drawing c) a b = absurd (no_formats (sym b.1 ∙ a.1))
+one_conversion from to frame number (Drawing c) (Frame n t) a b = absurd (no_formats (sym b.0 ∙ a.0))
+one_conversion from to frame number (Drawing c) Lines a b = absurd (no_formats (sym a.1 ∙ b.1))
+one_conversion from to frame number (Drawing c) (Drawing d) a b = ap Drawing (sym a.2 ∙ b.2)
 
 convert_one : (said : Text → Option Text) (o p : ConvertOptions) → MeanConvert said o
     → MeanConvert said p → o ≡ p
 convert_one said o p h k =
-    let from = says_one NamesFormat Fold format_one (said (codes "from")) k.0 h.0 k.3 h.3 in
-    let to = says_one NamesFormat Fold format_one (said (codes "to")) k.1 h.1 k.4 h.4 in
-    let frame = says_one NamesNumber 0 number_one (said (codes "frame")) k.2 h.2 k.5 h.5 in
-    one_conversion h.0 h.1 h.2 o p h.6
-    (subst (λ n. IsConversion h.0 h.1 n p) frame
-    (subst (λ t. IsConversion h.0 t k.2 p) to
-    (subst (λ f. IsConversion f k.1 k.2 p) from k.6)))
+    let from = says_one NamesFormat Fold format_one (said (codes "from")) k.0 h.0 k.4 h.4 in
+    let to = says_one NamesFormat Fold format_one (said (codes "to")) k.1 h.1 k.5 h.5 in
+    let frame = says_one NamesNumber 0 number_one (said (codes "frame")) k.2 h.2 k.6 h.6 in
+    let number = says_one NamesChoice Exact choice_one (said (codes "number")) k.3 h.3 k.7 h.7 in
+    one_conversion h.0 h.1 h.2 h.3 o p h.8
+    (subst (λ c. IsConversion h.0 h.1 h.2 c p) number
+    (subst (λ n. IsConversion h.0 h.1 n k.3 p) frame
+    (subst (λ t. IsConversion h.0 t k.2 k.3 p) to
+    (subst (λ f. IsConversion f k.1 k.2 k.3 p) from k.8))))
+
+-- a text isn't two that differ
+two_texts : (text a b : Text) → bytes_eq a b ≡ false → text ≡ a → text ≡ b → ⊥
+two_texts text a b differ p q = false≢true (sym differ ∙ (bytes_eq-Decides a b).1 (sym p ∙ q))
+
+-- one of two texts names a value, and each of them one
+two_named : {X : Type 0} (a b : Text) (x y : X) (names : Text → X → Type 0) → ((text : Text) → text ≡ a → names text x)
+    → ((text : Text) → text ≡ b → names text y)
+    → ((text : Text) (z : X) → names text z → (text ≡ a) ⊎ (text ≡ b)) → NamesOrNot names
+two_named a b x y names first second only text = elim (same_text text a) [
+  | inl e ↦ inl (x, first text e)
+  | inr no_first ↦ elim (same_text text b) [
+    | inl e ↦ inl (y, second text e)
+    | inr no_second ↦ inr (λ z h. elim (only text z h) [ inl e ↦ no_first e | inr e ↦ no_second e ])
+  ]
+]
+
+flat_one : NamesOne NamesFlat
+flat_one text Keep Keep p q = refl
+flat_one text Keep Drop p q = absurd (two_texts text (codes "keep") (codes "drop") refl p q)
+flat_one text Drop Keep p q = absurd (two_texts text (codes "keep") (codes "drop") refl q p)
+flat_one text Drop Drop p q = refl
+
+flat_or_not : NamesOrNot NamesFlat
+flat_or_not = two_named (codes "keep") (codes "drop") Keep Drop NamesFlat (λ text e. e) (λ text e. e) only
+  where
+    only : (text : Text) (z : Flat) → NamesFlat text z → (text ≡ codes "keep") ⊎ (text ≡ codes "drop")
+    only text Keep h = inl h
+    only text Drop h = inr h
+
+faces_one : NamesOne NamesFaces
+faces_one text Find Find p q = refl
+faces_one text Find Skip p q = cc
+faces_one text Skip Find p q = cc
+faces_one text Skip Skip p q = refl
+
+faces_or_not : NamesOrNot NamesFaces
+faces_or_not = two_named (codes "yes") (codes "no") Find Skip NamesFaces (λ text e. e) (λ text e. e) only
+  where
+    only : (text : Text) (z : Faces) → NamesFaces text z → (text ≡ codes "yes") ⊎ (text ≡ codes "no")
+    only text Find h = inl h
+    only text Skip h = inr h
+
+repair_one : (said : Text → Option Text) (o p : RepairOptions) → MeanRepair said o → MeanRepair said p → o ≡ p
+repair_one said o p h k =
+    let from = says_one NamesFormat Fold format_one (said (codes "from")) o.from p.from h.from k.from in
+    let to = says_one NamesFormat Fold format_one (said (codes "to")) o.to p.to h.to k.to in
+    let frame = says_one NamesNumber 0 number_one (said (codes "frame")) o.frame p.frame h.frame k.frame in
+    let number = says_one NamesChoice Exact choice_one (said (codes "number")) o.number p.number h.number k.number in
+    let flat = says_one NamesFlat Keep flat_one (said (codes "flat")) o.flat p.flat h.flat k.flat in
+    let faces = says_one NamesFaces Find faces_one (said (codes "faces")) o.faces p.faces h.faces k.faces in
+    (λ i. record { from = from i; to = to i; frame = frame i; number = number i; flat = flat i; faces = faces i })
+
+repair_or_not : (said : Text → Option Text) → ((o : RepairOptions) × MeanRepair said o) ⊎ ((o : RepairOptions) → ¬ MeanRepair said o)
+repair_or_not said = elim (says_or_not NamesFormat Fold format_or_not (said (codes "from"))) [
+  | inl from ↦ elim (says_or_not NamesFormat Fold format_or_not (said (codes "to"))) [
+    | inl to ↦ elim (says_or_not NamesNumber 0 number_or_not (said (codes "frame"))) [
+      | inl frame ↦ elim (says_or_not NamesChoice Exact choice_or_not (said (codes "number"))) [
+        | inl number ↦ elim (says_or_not NamesFlat Keep flat_or_not (said (codes "flat"))) [
+          | inl flat ↦ elim (says_or_not NamesFaces Find faces_or_not (said (codes "faces"))) [
+            | inl faces ↦ inl (
+              record { from = from.0; to = to.0; frame = frame.0; number = number.0; flat = flat.0; faces = faces.0 },
+              record { from = from.1; to = to.1; frame = frame.1; number = number.1; flat = flat.1; faces = faces.1 },
+            )
+            | inr none ↦ inr (λ o h. none o.faces h.faces)
+          ]
+          | inr none ↦ inr (λ o h. none o.flat h.flat)
+        ]
+        | inr none ↦ inr (λ o h. none o.number h.number)
+      ]
+      | inr none ↦ inr (λ o h. none o.frame h.frame)
+    ]
+    | inr none ↦ inr (λ o h. none o.to h.to)
+  ]
+  | inr none ↦ inr (λ o h. none o.from h.from)
+]
 
 -- ---- the command
 
-pub two_names : (name : Text) → name ≡ codes "show" → name ≡ codes "convert" → ⊥
-two_names name a b = let both : codes "show" ≡ codes "convert" = sym a ∙ b in cc
+pub show_or_convert : (name : Text) → name ≡ codes "show" → name ≡ codes "convert" → ⊥
+show_or_convert name = two_texts name (codes "show") (codes "convert") refl
+
+pub show_or_repair : (name : Text) → name ≡ codes "show" → name ≡ codes "repair" → ⊥
+show_or_repair name = two_texts name (codes "show") (codes "repair") refl
+
+pub convert_or_repair : (name : Text) → name ≡ codes "convert" → name ≡ codes "repair" → ⊥
+convert_or_repair name = two_texts name (codes "convert") (codes "repair") refl
 
 mean_one : (name : Text) (said : Text → Option Text) (c d : Command) → Mean name said c → Mean name said d → c ≡ d
 mean_one name said (Show o) (Show p) h k = ap (λ f. Show (record { from = f })) (says_one NamesFormat Fold format_one (said (codes "from")) o.from p.from h.1 k.1)
-mean_one name said (Show o) (Convert p) h k = absurd (two_names name h.0 k.0)
-mean_one name said (Convert o) (Show p) h k = absurd (two_names name k.0 h.0)
+mean_one name said (Show o) (Convert p) h k = absurd (show_or_convert name h.0 k.0)
+mean_one name said (Show o) (Repair p) h k = absurd (show_or_repair name h.0 k.0)
+mean_one name said (Convert o) (Show p) h k = absurd (show_or_convert name k.0 h.0)
 mean_one name said (Convert o) (Convert p) h k = ap Convert (convert_one said o p h.1 k.1)
+mean_one name said (Convert o) (Repair p) h k = absurd (convert_or_repair name h.0 k.0)
+mean_one name said (Repair o) (Show p) h k = absurd (show_or_repair name k.0 h.0)
+mean_one name said (Repair o) (Convert p) h k = absurd (convert_or_repair name k.0 h.0)
+mean_one name said (Repair o) (Repair p) h k = ap Repair (repair_one said o p h.1 k.1)
 
-mean_or_not : (name : Text) (said : Text → Option Text) → ((c : Command) × Mean name said c) ⊎ ((c : Command) → ¬ Mean name said c)
-mean_or_not name said = elim (same_text name (codes "show")) [
-  | inl show ↦ elim (show_or_not said) [
-    | inl p ↦ inl (Show p.0, (show, p.1))
-    | inr none ↦ inr (no_show show none)
-  ]
-  | inr not_show ↦ elim (same_text name (codes "convert")) [
-    | inl convert ↦ elim (convert_or_not said) [
-      | inl p ↦ inl (Convert p.0, (convert, p.1))
-      | inr none ↦ inr (no_convert convert none)
+-- options that are said, or none, of the one command with this name
+module _ (name : Text) (said : Text → Option Text) where
+  no_show : name ≡ codes "show" → ((o : ShowOptions) → ¬ MeanShow said o) → (c : Command) → ¬ Mean name said c
+  no_show show none (Show o) h = none o h.1
+  no_show show none (Convert o) h = show_or_convert name show h.0
+  no_show show none (Repair o) h = show_or_repair name show h.0
+
+  no_convert : name ≡ codes "convert" → ((o : ConvertOptions) → ¬ MeanConvert said o) → (c : Command) → ¬ Mean name said c
+  no_convert convert none (Show o) h = show_or_convert name h.0 convert
+  no_convert convert none (Convert o) h = none o h.1
+  no_convert convert none (Repair o) h = convert_or_repair name convert h.0
+
+  no_repair : name ≡ codes "repair" → ((o : RepairOptions) → ¬ MeanRepair said o) → (c : Command) → ¬ Mean name said c
+  no_repair repair none (Show o) h = show_or_repair name h.0 repair
+  no_repair repair none (Convert o) h = convert_or_repair name h.0 repair
+  no_repair repair none (Repair o) h = none o h.1
+
+  no_name : ¬ (name ≡ codes "show") → ¬ (name ≡ codes "convert") → ¬ (name ≡ codes "repair") → (c : Command) → ¬ Mean name said c
+  no_name not_show not_convert not_repair (Show o) h = not_show h.0
+  no_name not_show not_convert not_repair (Convert o) h = not_convert h.0
+  no_name not_show not_convert not_repair (Repair o) h = not_repair h.0
+
+  mean_or_not : ((c : Command) × Mean name said c) ⊎ ((c : Command) → ¬ Mean name said c)
+  mean_or_not = elim (same_text name (codes "show")) [
+    | inl show ↦ elim (show_or_not said) [
+      | inl p ↦ inl (Show p.0, (show, p.1))
+      | inr none ↦ inr (no_show show none)
     ]
-    | inr not_convert ↦ inr (no_name not_show not_convert)
+    | inr not_show ↦ elim (same_text name (codes "convert")) [
+      | inl convert ↦ elim (convert_or_not said) [
+        | inl p ↦ inl (Convert p.0, (convert, p.1))
+        | inr none ↦ inr (no_convert convert none)
+      ]
+      | inr not_convert ↦ elim (same_text name (codes "repair")) [
+        | inl repair ↦ elim (repair_or_not said) [
+          | inl p ↦ inl (Repair p.0, (repair, p.1))
+          | inr none ↦ inr (no_repair repair none)
+        ]
+        | inr not_repair ↦ inr (no_name not_show not_convert not_repair)
+      ]
+    ]
   ]
-]
-  where
-    no_show : name ≡ codes "show" → ((o : ShowOptions) → ¬ MeanShow said o) → (c : Command) → ¬ Mean name said c
-    no_show show none (Show o) h = none o h.1
-    no_show show none (Convert o) h = two_names name show h.0
-
-    no_convert : name ≡ codes "convert" → ((o : ConvertOptions) → ¬ MeanConvert said o) → (c : Command) → ¬ Mean name said c
-    no_convert convert none (Show o) h = two_names name h.0 convert
-    no_convert convert none (Convert o) h = none o h.1
-
-    no_name : ¬ (name ≡ codes "show") → ¬ (name ≡ codes "convert") → (c : Command) → ¬ Mean name said c
-    no_name not_show not_convert (Show o) h = not_show h.0
-    no_name not_show not_convert (Convert o) h = not_convert h.0
 
 -- every command reads the input
 reads : (command : Command) → Reads command
 reads (Show options) = tt
 reads (Convert options) = tt
+reads (Repair options) = tt
 
 -- ---- the words
 
@@ -200,7 +307,7 @@ same_rows n m r s o p q = ap (λ (x : Option (Text × List Row)). option_map_or 
 moved : (words : List Text) (n m : Text) (r s : List Row) (c : Command) → AreTaken words n r → AreTaken words m s → Mean n (said_in r) c → Mean m (said_in s) c
 moved words n m r s c p q h = subst (λ x. Mean x (said_in s) c) (same_name n m r s (found words) p.1 q.1) (subst (λ x. Mean n (said_in x) c) (same_rows n m r s (found words) p.1 q.1) h)
 
-one_command : (words : List Text) (c d : Command) → AreWordsOf words c → AreWordsOf words d → c ≡ d
+pub one_command : (words : List Text) (c d : Command) → AreWordsOf words c → AreWordsOf words d → c ≡ d
 one_command words c d p q = mean_one q.0 (said_in q.1) c d (moved words p.0 q.0 p.1 q.1 c p.2 q.2 p.3) q.3
 
 -- `clap` either takes the words or doesn't

@@ -1,8 +1,14 @@
 pub mod Chain
 pub mod Decide
+pub mod Drawn
 pub mod Ending
 pub mod Meaning
+pub mod NumberOption
 pub mod Outcomes
 pub mod Plain
 pub mod Reading
 pub mod Converted
+pub mod Repairing
+pub mod Fileable
+pub mod Regions
+pub mod OneRepair

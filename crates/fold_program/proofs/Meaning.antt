@@ -20,18 +20,21 @@ use Rattle.clap.specs.Words.{App, HasMatchesOf, fault_of, is_simple, is_simple_a
 use Rattle.clap.specs.declared.error.Error.{Error}
 use Rattle.clap.specs.declared.error.kind.ErrorKind.{ErrorKind}
 use Rattle.clap.specs.declared.parser.matches.ArgMatches.{ArgMatches}
-use Rattle.fold_program.specs.Words.{Text, NamesFormat, NamesNumber, Says, Mean, MeanShow, MeanConvert, MeansNone, app, as_listed, faults, found, no_entries, option_rule, with_entry}
+use Rattle.fold_program.specs.NumberOption.{NamesChoice}
+use Rattle.fold_program.specs.declared.number_option.NumberChoice.TheVariants.{Exact}
+use Rattle.fold_program.specs.Words.{Text, NamesFormat, NamesNothing, NamesNumber, Says, Mean, MeanShow, MeanConvert, MeanRepair, MeansNone, app, as_listed, faults, found, no_entries, option_rule, with_entry}
 use Rattle.fold_program.specs.Status.{IsOfWords}
 use Rattle.fold_program.specs.declared.words.Entry.{Entry}
 use Rattle.fold_program.specs.declared.words.Command.{Command}
-use Rattle.fold_program.specs.declared.words.Command.TheVariants.{Show, Convert}
+use Rattle.fold_program.specs.declared.words.Command.TheVariants.{Show, Convert, Repair}
 use Rattle.fold_program.specs.declared.words.Format.{Format}
 use Rattle.fold_program.specs.declared.words.Format.TheVariants.{Fold}
+use Rattle.fold_program.specs.declared.words.RepairOptions.{RepairOptions}
 use Rattle.fold_program.specs.declared.status.WordsCause.{WordsCause}
 use Rattle.fold_program.specs.declared.status.Status.{Status}
 use Rattle.fold_program.specs.declared.status.Status.TheVariants.{Memory, Words}
 use Rattle.fold_program.specs.declared.status.WordsCause.TheVariants.{Refused, Value}
-use Rattle.fold_program.proofs.Decide.{two_names}
+use Rattle.fold_program.proofs.Decide.{convert_or_repair, show_or_convert, show_or_repair}
 
 -- one entry more
 pub entries_more : (xs : List Entry) (i : ℕ) (d : Entry) → i < length xs
@@ -88,7 +91,8 @@ no_show name said status is (inr h) = inr (h.0, none)
   where
     none : (c : Command) → ¬ Mean name said c
     none (Show o) m = h.1 o m.1
-    none (Convert o) m = two_names name is m.0
+    none (Convert o) m = show_or_convert name is m.0
+    none (Repair o) m = show_or_repair name is m.0
 
 pub no_convert : (name : Text) (said : Text → Option Text) (status : Status) → name ≡ codes "convert"
     → MeansNone (MeanConvert said) status → MeansNone (Mean name said) status
@@ -96,8 +100,38 @@ no_convert name said status is (inl memory) = inl memory
 no_convert name said status is (inr h) = inr (h.0, none)
   where
     none : (c : Command) → ¬ Mean name said c
-    none (Show o) m = two_names name m.0 is
+    none (Show o) m = show_or_convert name m.0 is
     none (Convert o) m = h.1 o m.1
+    none (Repair o) m = convert_or_repair name is m.0
+
+pub no_repair : (name : Text) (said : Text → Option Text) (status : Status) → name ≡ codes "repair"
+    → MeansNone (MeanRepair said) status → MeansNone (Mean name said) status
+no_repair name said status is (inl memory) = inl memory
+no_repair name said status is (inr h) = inr (h.0, none)
+  where
+    none : (c : Command) → ¬ Mean name said c
+    none (Show o) m = show_or_repair name m.0 is
+    none (Convert o) m = convert_or_repair name m.0 is
+    none (Repair o) m = h.1 o m.1
+
+-- an option of `repair` that names no value leaves the others without a meaning
+pub no_option : {X : Type 0} (names : Text → X → Type 0) (default : X) (said : Text → Option Text)
+    (name : Text) (text : Option Text) (status : Status)
+    → ((o : RepairOptions) → MeanRepair said o → (x : X) × Says names default (said name) x)
+    → text ≡ said name → MeansNone (Says names default text) status
+    → MeansNone (MeanRepair said) status
+no_option names default said name text status part is (inl memory) = inl memory
+no_option names default said name text status part is (inr h) =
+    inr (
+      h.0,
+      λ o m. let p = part o m in
+          h.1 p.0 (subst (λ t. Says names default t p.0) (sym is) p.1),
+    )
+
+pub nothing_named : {X : Type 0} (names : Text → X → Type 0) (default : X) (text : Option Text)
+    (cause : WordsCause) → NamesNothing names default text cause
+    → MeansNone (Says names default text) (Words cause)
+nothing_named names default text cause h = inr (ap Words h.0, h.1)
 
 pub no_format : (said : Text → Option Text) (text : Option Text) (cause : WordsCause) → text ≡ said (codes "from")
     → cause ≡ Value → ((format : Format) → ¬ Says NamesFormat Fold text format)
@@ -109,19 +143,25 @@ pub no_from : (said : Text → Option Text) (text : Option Text) (cause : WordsC
     → cause ≡ Value → ((format : Format) → ¬ Says NamesFormat Fold text format)
     → MeansNone (MeanConvert said) (Words cause)
 no_from said text cause is value none =
-    inr (ap Words value, λ o h. none h.0 (subst (λ t. Says NamesFormat Fold t h.0) (sym is) h.3))
+    inr (ap Words value, λ o h. none h.0 (subst (λ t. Says NamesFormat Fold t h.0) (sym is) h.4))
 
 pub no_to : (said : Text → Option Text) (text : Option Text) (cause : WordsCause) → text ≡ said (codes "to")
     → cause ≡ Value → ((format : Format) → ¬ Says NamesFormat Fold text format)
     → MeansNone (MeanConvert said) (Words cause)
 no_to said text cause is value none =
-    inr (ap Words value, λ o h. none h.1 (subst (λ t. Says NamesFormat Fold t h.1) (sym is) h.4))
+    inr (ap Words value, λ o h. none h.1 (subst (λ t. Says NamesFormat Fold t h.1) (sym is) h.5))
 
 pub no_frame : (said : Text → Option Text) (text : Option Text) (status : Status) → text ≡ said (codes "frame")
     → MeansNone (Says NamesNumber 0 text) status → MeansNone (MeanConvert said) status
 no_frame said text status is (inl memory) = inl memory
 no_frame said text status is (inr h) =
-    inr (h.0, λ o m. h.1 m.2 (subst (λ t. Says NamesNumber 0 t m.2) (sym is) m.5))
+    inr (h.0, λ o m. h.1 m.2 (subst (λ t. Says NamesNumber 0 t m.2) (sym is) m.6))
+
+pub no_choice : (said : Text → Option Text) (text : Option Text) (status : Status) → text ≡ said (codes "number")
+    → MeansNone (Says NamesChoice Exact text) status → MeansNone (MeanConvert said) status
+no_choice said text status is (inl memory) = inl memory
+no_choice said text status is (inr h) =
+    inr (h.0, λ o m. h.1 m.3 (subst (λ t. Says NamesChoice Exact t m.3) (sym is) m.7))
 
 -- ---- numbers
 

@@ -27,8 +27,10 @@ use Rattle.fold_keys.specs.declared.value.FoldFile.{FoldFile}
 use Rattle.fold_keys.specs.declared.value.Frame.{Frame as KeysFrame}
 use Rattle.fold_keys.specs.declared.fault.ShapeFault.{ShapeFault}
 use Rattle.fold_program.specs.Status.{IsFailure, of_frame, of_lines}
-use Rattle.fold_program.specs.Words.{TakeNothing}
-use Rattle.fold_program.specs.Outcome.{HaveFault, Spell, AreUnread, AreRead, HasMisfit, IsFileTree, IsReadFrom, IsSoundTree, HasNoFrame, HasUnevenLists, HasCounts, LacksLines, WritesFrame, with_frame, Makes, format_of, IsOutcome, AreInput, AreLeft, KeepsToOutcome, HasOutcome, HaveOutcome, HaveAtMostOneOutcome}
+use Rattle.fold_program.specs.Words.{IsOnTexts, TakeNothing}
+use Rattle.fold_program.specs.Outcome.{HaveFault, Spell, AreUnread, AreRead, HasMisfit, IsFileTree, IsReadFrom, IsSoundTree, HasNoFrame, HasUnevenLists, HasCounts, LacksLines, WritesFrame, with_frame, Makes, format_of, IsOutcome, AreInput, AreLeft, KeepsToOutcome, AskForTexts, HasOutcome, HaveOutcome, HaveAtMostOneOutcome}
+use Rattle.crease_input.specs.Roots.{root_of}
+use Rattle.fold_program.specs.declared.given.Given.TheVariants as given
 use Rattle.fold_program.specs.declared.input.Input.{Input}
 use Rattle.fold_program.specs.declared.input.Input.TheVariants as input
 use Rattle.fold_program.specs.declared.status.Status.{Status}
@@ -37,10 +39,12 @@ use Rattle.fold_program.specs.declared.status.ShapeCause.TheVariants.{Key}
 use Rattle.fold_program.specs.declared.status.TextFault.TheVariants as faults
 use Rattle.fold_program.specs.declared.status.Limit.TheVariants.{TooLong}
 use Rattle.fold_program.specs.declared.words.Command.{Command}
-use Rattle.fold_program.specs.declared.words.Command.TheVariants.{Show, Convert}
-use Rattle.fold_program.specs.declared.words.ConvertOptions.TheVariants.{Frame, Lines}
+use Rattle.fold_program.specs.declared.words.Command.TheVariants.{Show, Convert, Repair}
+use Rattle.fold_program.specs.declared.words.ConvertOptions.TheVariants.{Frame, Lines, Drawing}
 use Rattle.fold_program.specs.declared.words.Format.{Format}
 use Rattle.fold_program.specs.declared.words.Format.TheVariants.{Fold, Cp}
+use Rattle.fold_program.proofs.OneRepair.{HaveOneRepairs, one_repaired_by, one_repaired_with}
+use Rattle.fold_program.proofs.Drawn.{HaveOneDrawings, one_drawn_by, some_drawn_by}
 use Rattle.fold_program.proofs.Chain.{Comes, Goes, IsOne, IsStep, one_answer, one_then, some_then}
 use Rattle.fold_program.proofs.Decide.{no_command, words_go, words_step}
 
@@ -146,7 +150,7 @@ pub record HaveOneFile : Type 0 where
 no_some : {X : Type 0} (x : X) (o : Option X) → o ≡ Some x → o ≡ None → ⊥
 no_some x o a b = let e : Some x ≡ None = sym a ∙ b in cc
 
-module _ (have : HaveOneFile) where
+module _ (have : HaveOneFile) (draw : HaveOneDrawings) (repair : HaveOneRepairs) where
   file_step : (tree : Json) → IsStep (HasMisfit tree) (IsReadFrom tree)
   file_step tree = record {
     one_stop = (keys_step tree).one_stop;
@@ -257,27 +261,39 @@ module _ (have : HaveOneFile) where
   one_made (Convert (Frame number to)) (input.Cp lines) = λ s s' t t' a b. absurd a
   one_made (Convert Lines) (input.Fold tree) = λ s s' t t' a b. absurd a
   one_made (Convert Lines) (input.Cp lines) = one_answer _
+  one_made (Convert (Drawing number)) (input.Fold tree) = λ s s' t t' a b. absurd a
+  one_made (Convert (Drawing number)) (input.Cp lines) = one_drawn_by draw number lines
+  one_made (Repair options) (input.Fold tree) =
+      one_then _ _ _ (file_step tree) (λ file h.
+      one_then _ _ _ (frame_step file options.frame) (λ frame h.
+      one_then _ _ _ (counts_step frame) (λ counts h.
+      one_repaired_with repair (root_of frame.entries) options (given.Frame frame))))
+  one_made (Repair options) (input.Cp lines) = one_repaired_by repair options.number options (given.Lines lines)
 
-  some_made : (command : Command) (bytes : List ℕ) (spelled : Input)
+  some_made : (command : Command) (bytes : List ℕ) (spelled : Input) → IsOnTexts command
       → AreRead (format_of command) bytes spelled → Comes (Makes command spelled)
-  some_made (Show options) bytes (input.Fold tree) read = some_then _ _ _ (keys_go tree) (λ of_file h. (Done, json_form.printed_form of_file ++ 10 ∷ [], (refl, refl)))
-  some_made (Show options) bytes (input.Cp lines) read = (Done, cp_form.printed_form lines, (refl, refl))
-  some_made (Convert (Frame number to)) bytes (input.Fold tree) read =
+  some_made (Show options) bytes (input.Fold tree) texts read = some_then _ _ _ (keys_go tree) (λ of_file h. (Done, json_form.printed_form of_file ++ 10 ∷ [], (refl, refl)))
+  some_made (Show options) bytes (input.Cp lines) texts read = (Done, cp_form.printed_form lines, (refl, refl))
+  some_made (Convert (Frame number to)) bytes (input.Fold tree) texts read =
       some_then _ _ _ (file_goes tree (have.sound bytes tree read.0 read.1)) (λ file h.
       some_then _ _ _ (frame_goes file number) (λ frame h.
       some_then _ _ _ (counts_go frame) (λ counts h. some_written to file frame)))
-  some_made (Convert (Frame number to)) bytes (input.Cp lines) read = absurd read.1
-  some_made (Convert Lines) bytes (input.Fold tree) read = absurd read.1
-  some_made (Convert Lines) bytes (input.Cp lines) read =
+  some_made (Convert (Frame number to)) bytes (input.Cp lines) texts read = absurd read.1
+  some_made (Convert Lines) bytes (input.Fold tree) texts read = absurd read.1
+  some_made (Convert Lines) bytes (input.Cp lines) texts read =
       (Done, cp_form.printed_form lines, (refl, refl))
+  some_made (Convert (Drawing number)) bytes (input.Fold tree) texts read = absurd read.1
+  some_made (Convert (Drawing number)) bytes (input.Cp lines) texts read =
+      some_drawn_by draw number lines
+  some_made (Repair options) bytes spelled texts read = absurd texts
 
 -- ---- words and bytes
 
-pub one_outcome : HaveOneReading → HaveOneFile → (words : List (List ℕ)) (bytes : List ℕ) → HaveAtMostOneOutcome words bytes
-one_outcome one have words bytes = one_then _ _ _ (words_step words) (λ command h. one_then _ _ _ (reading_step one (format_of command) bytes) (λ spelled k. one_made have command spelled))
+pub one_outcome : HaveOneReading → HaveOneFile → HaveOneDrawings → HaveOneRepairs → (words : List (List ℕ)) (bytes : List ℕ) → HaveAtMostOneOutcome words bytes
+one_outcome one have draw repair words bytes = one_then _ _ _ (words_step words) (λ command h. one_then _ _ _ (reading_step one (format_of command) bytes) (λ spelled k. one_made have draw repair command spelled))
 
-pub some_outcome : HaveOneReading → HaveOneFile → (words : List (List ℕ)) (bytes : List ℕ) → HaveOutcome words bytes
-some_outcome one have words bytes = some_then _ _ _ (words_go words) (λ command h. some_then _ _ _ (reading_goes one (format_of command) bytes) (λ spelled k. some_made have command bytes spelled k))
+pub some_outcome : HaveOneReading → HaveOneFile → HaveOneDrawings → HaveOneRepairs → (words : List (List ℕ)) (bytes : List ℕ) → AskForTexts words → HaveOutcome words bytes
+some_outcome one have draw repair words bytes texts = some_then _ _ _ (words_go words) (λ command h. some_then _ _ _ (reading_goes one (format_of command) bytes) (λ spelled k. some_made have draw repair command bytes spelled (texts command h) k))
 
 -- where the words take nothing, the bytes don't matter
 of_any : (words : List (List ℕ)) → TakeNothing words → (bytes other : List ℕ) (s : Status) (t : List ℕ) → IsOutcome words bytes s t → IsOutcome words other s t

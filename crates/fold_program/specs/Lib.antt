@@ -1,6 +1,12 @@
 pub mod Status
 pub mod Steps
+pub mod NumberOption
 pub mod Words
+pub mod Frames
+pub mod Fields
+pub mod Drawings
+pub mod Repairs
 pub mod Outcome
+pub mod Regions
 pub mod Notes
 pub mod Outside

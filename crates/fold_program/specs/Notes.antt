@@ -8,18 +8,30 @@ use Rattle.cp_lines.specs.FaultText as cp
 use Rattle.json_read.specs.FaultText as json
 use Rattle.fold_keys.specs.FaultText as keys
 use Rattle.fold_program.specs.declared.status.Status.{Status}
-use Rattle.fold_program.specs.declared.status.Status.TheVariants.{Done, Text, Shape, Sheet, Words}
+use Rattle.fold_program.specs.declared.status.Status.TheVariants.{Done, Text, Shape, Sheet, Number, Words}
 use Rattle.fold_program.specs.declared.status.Status.TheVariants.{Read, Write, Limit, Memory}
 use Rattle.fold_program.specs.declared.status.TextFault.{TextFault}
 use Rattle.fold_program.specs.declared.status.TextFault.TheVariants.{Json, Cp}
 use Rattle.fold_program.specs.declared.status.ShapeCause.{ShapeCause}
-use Rattle.fold_program.specs.declared.status.ShapeCause.TheVariants.{Key, NoFrame, ParentRange, ParentLoop, NotFlat}
+use Rattle.fold_program.specs.declared.status.ShapeCause.TheVariants.{Key, NoFrame, ParentRange, ParentLoop, NotFlat, Stale}
 use Rattle.fold_program.specs.declared.status.SheetCause.{SheetCause}
-use Rattle.fold_program.specs.declared.status.SheetCause.TheVariants.{Missing}
+use Rattle.fold_program.specs.declared.status.NumberCause.{NumberCause}
+use Rattle.fold_program.specs.declared.status.NumberCause.TheVariants.{TooWide, Unread}
+use Rattle.crease_input.specs.declared.fault.Axis.{Axis}
+use Rattle.crease_input.specs.declared.fault.Axis.TheVariants.{X, Y}
+use Rattle.crease_input.specs.declared.fault.Counted.{Counted}
+use Rattle.crease_input.specs.declared.fault.Counted.TheVariants.{Faces, Segments, Vertices}
+use Rattle.drawing_repair.specs.declared.answer.Stage.{Stage}
+use Rattle.drawing_repair.specs.declared.answer.Stage.TheVariants.{Drawn, Input}
+use Rattle.number_rules.specs.declared.unread.Unread.{Unread as UnreadCause}
+use Rattle.number_rules.specs.declared.unread.Unread.TheVariants.{Far, Fine, NoRoot, ExactText}
+use Rattle.fold_program.specs.declared.status.SheetCause.TheVariants.{Check, Missing}
+use Rattle.fold_program.specs.declared.status.SheetFlaw.{SheetFlaw}
+use Rattle.fold_program.specs.declared.status.SheetFlaw.TheVariants.{Parted}
 use Rattle.fold_program.specs.declared.status.WordsCause.{WordsCause}
 use Rattle.fold_program.specs.declared.status.WordsCause.TheVariants.{Refused, Value}
 use Rattle.fold_program.specs.declared.status.Limit.{Limit as AnyLimit}
-use Rattle.fold_program.specs.declared.status.Limit.TheVariants.{TooLong}
+use Rattle.fold_program.specs.declared.status.Limit.TheVariants.{TooLong, TooMany}
 
 -- what is said of a text that isn't of its format
 abbrev pub text_message : TextFault → List ℕ
@@ -33,19 +45,53 @@ shape_message (NoFrame frame) = codes "no frame " ++ decimal frame
 shape_message (ParentRange frame) = codes "parent range " ++ decimal frame
 shape_message (ParentLoop frame) = codes "parent loop " ++ decimal frame
 shape_message (NotFlat vertex) = codes "not flat " ++ decimal vertex
+shape_message (Stale vertex) = codes "stale " ++ decimal vertex
+
+-- what is said of what keeps a drawing from being a sheet
+abbrev pub flaw_message : SheetFlaw → List ℕ
+flaw_message (Parted vertex) = codes "parted " ++ decimal vertex
 
 -- what is said of a frame that is no sheet
 abbrev pub sheet_message : SheetCause → List ℕ
 sheet_message (Missing key) = codes "missing " ++ key
+sheet_message (Check flaw) = flaw_message flaw
+
+-- why a coordinate isn't read
+abbrev pub unread_words : UnreadCause → List ℕ
+unread_words Far = codes "far"
+unread_words Fine = codes "fine"
+unread_words NoRoot = codes "no root"
+unread_words ExactText = codes "exact text"
+
+abbrev pub axis_name : Axis → List ℕ
+axis_name X = codes "x"
+axis_name Y = codes "y"
+
+-- which coordinates are too wide
+abbrev pub stage_name : Stage → List ℕ
+stage_name Input = codes "input"
+stage_name Drawn = codes "drawn"
+
+-- what is said of numbers that can't be computed with
+abbrev pub number_message : NumberCause → List ℕ
+number_message (Unread vertex axis cause) =
+    codes "unread " ++ decimal vertex ++ codes " " ++ axis_name axis ++ codes ": " ++ unread_words cause
+number_message (TooWide vertex stage) = codes "too wide " ++ decimal vertex ++ codes " " ++ stage_name stage
 
 -- what is said of words that are refused
 abbrev pub words_message : WordsCause → List ℕ
 words_message Refused = codes "words refused"
 words_message Value = codes "words value"
 
+abbrev pub counted_name : Counted → List ℕ
+counted_name Vertices = codes "vertices"
+counted_name Segments = codes "segments"
+counted_name Faces = codes "faces"
+
 -- what is said of input that is past a limit
 abbrev pub limit_message : AnyLimit → List ℕ
 limit_message TooLong = codes "too long"
+limit_message (TooMany what) = codes "too many " ++ counted_name what
 
 -- what is said of a status; of `Done` nothing is put
 abbrev pub message : Status → List ℕ
@@ -53,6 +99,7 @@ message Done = codes "done"
 message (Text fault) = text_message fault
 message (Shape cause) = shape_message cause
 message (Sheet cause) = sheet_message cause
+message (Number cause) = number_message cause
 message (Words cause) = words_message cause
 message Read = codes "read failed"
 message Write = codes "write failed"

@@ -1,7 +1,7 @@
 -- the outcome of words and bytes, and what it has to do with the outside
 use Rattle.std.specs.Prelude.{◌≡◌, ◌⊎◌, ℕ, ◌<◌, ◌≤◌, List, [], ◌∷◌, ◌++◌, length, filter}
 use Rattle.std.specs.Prelude.{Bool, ◌&&◌, not, codes, Some, None, Result, Ok, Err}
-use Rattle.std.specs.List.{All, starts_with}
+use Rattle.std.specs.List.{starts_with}
 use Rattle.std.specs.Str.{bytes_eq}
 use Rattle.std.proofs.Math.Dec.{eqb}
 use Rattle.std.specs.declared.option.Option.{Option}
@@ -17,36 +17,33 @@ use Rattle.json_tree.specs.Tree.{IsProper}
 use Rattle.json_tree.specs.declared.tree.Json.{Json}
 use Rattle.json_read.specs.Causes as json
 use Rattle.json_read.specs.declared.fault.JsonFault.{JsonFault}
-use Rattle.fold_frames.specs.Answers.{HasNone, IsEffective}
-use Rattle.fold_frames.specs.Counts.{counts_of, misfit_in_effect}
+use Rattle.fold_frames.specs.Answers.{IsEffective}
 use Rattle.fold_frames.specs.Effects.{FrameInEffect}
 use Rattle.fold_frames.specs.Inherits.{entries_at}
-use Rattle.fold_frames.specs.declared.counts.Counts.{Counts}
-use Rattle.fold_frames.specs.declared.fault.FrameFault.{FrameFault}
 use Rattle.frame_lines.specs.Lines.{HasLines, HasNoLines}
 use Rattle.frame_lines.specs.declared.fault.LinesFault.{LinesFault}
-use Rattle.fold_keys.specs.Shape.{misfit_of_file}
 use Rattle.fold_keys.specs.Short.{HasShortLists, HasShortSpec}
 use Rattle.fold_keys.specs.Trees.{tree_of_file}
-use Rattle.fold_keys.specs.Writable.{IsWritable, file_of}
-use Rattle.fold_keys.specs.declared.fault.ShapeFault.{ShapeFault}
+use Rattle.fold_keys.specs.Writable.{file_of}
 use Rattle.fold_keys.specs.declared.value.Entry.{Entry}
 use Rattle.fold_keys.specs.declared.value.FoldFile.{FoldFile}
-use Rattle.fold_program.specs.Status.{IsAnswer, IsFailure, of_frame, of_lines}
+use Rattle.fold_program.specs.Drawings.{AreSoundLines, DrawsBy}
+pub use Rattle.fold_program.specs.Frames.{HasCounts, HasMisfit, HasNoFrame, HasShortTexts, HasUnevenLists, IsFileTree, IsReadFrom}
+use Rattle.fold_program.specs.Repairs.{Repairs}
+use Rattle.fold_program.specs.Status.{IsAnswer, IsFailure, of_lines}
 use Rattle.fold_program.specs.Steps.{Outcome, Then, Answers, Never}
-use Rattle.fold_program.specs.Words.{AreWordsOf, AreRefused, TakeNothing}
+use Rattle.fold_program.specs.Words.{AreWordsOf, AreRefused, IsOnTexts, TakeNothing}
 use Rattle.fold_program.specs.declared.input.Input.{Input}
 use Rattle.fold_program.specs.declared.input.Input.TheVariants as input
 use Rattle.fold_program.specs.declared.status.Status.{Status}
-use Rattle.fold_program.specs.declared.status.Status.TheVariants.{Text, Shape}
+use Rattle.fold_program.specs.declared.status.Status.TheVariants.{Text}
 use Rattle.fold_program.specs.declared.status.Status.TheVariants.{Read, Write, Limit, Memory}
-use Rattle.fold_program.specs.declared.status.ShapeCause.TheVariants.{Key}
 use Rattle.fold_program.specs.declared.status.TextFault.TheVariants as faults
 use Rattle.fold_program.specs.declared.status.Limit.TheVariants.{TooLong}
 use Rattle.fold_program.specs.declared.words.Command.{Command}
-use Rattle.fold_program.specs.declared.words.Command.TheVariants.{Show, Convert}
+use Rattle.fold_program.specs.declared.words.Command.TheVariants.{Show, Convert, Repair}
 use Rattle.fold_program.specs.declared.words.ConvertOptions.{ConvertOptions}
-use Rattle.fold_program.specs.declared.words.ConvertOptions.TheVariants.{Frame, Lines}
+use Rattle.fold_program.specs.declared.words.ConvertOptions.TheVariants.{Frame, Lines, Drawing}
 use Rattle.fold_program.specs.declared.words.Format.{Format}
 use Rattle.fold_program.specs.declared.words.Format.TheVariants.{Fold, Cp}
 
@@ -90,12 +87,12 @@ pub record IsSoundTree (tree : Json) : Type 0 where
   pub proper : IsProper tree
   pub lists : HasShortLists tree
   pub version : HasShortSpec tree
+  pub short : HasShortTexts tree
 
--- what is so of all that is read: FOLD's keys can be read from a tree, and a line's kind is one of
--- its format
+-- what is so of all that is read: FOLD's keys can be read from a tree, and lines are those of a text
 abbrev pub IsSound : Input → Type 0
 IsSound (input.Fold tree) = IsSoundTree tree
-IsSound (input.Cp lines) = All (λ line. line.kind ≤ 4) lines
+IsSound (input.Cp lines) = AreSoundLines lines
 
 -- what reading answers: what the bytes spell, a status where they aren't read, or that reading or
 -- the memory failed
@@ -105,19 +102,6 @@ IsReading format bytes (Err status) =
     ((status ≡ Read) ⊎ (status ≡ Memory)) ⊎ AreUnread format bytes status
 
 -- ---- the commands
-
--- the tree isn't of FOLD's shape, and the status names its first misfit
-abbrev pub HasMisfit : Json → Status → Type 0
-HasMisfit tree status =
-    (fault : ShapeFault) × (misfit_of_file tree ≡ Some fault) × (status ≡ Shape (Key fault))
-
--- the tree is of FOLD's shape, and it is the tree of the file that is read from it
-abbrev pub IsFileTree : Json → Json → Type 0
-IsFileTree tree of_file = (of_file ≡ tree) × (misfit_of_file tree ≡ None)
-
--- this is the file that was read from the tree
-abbrev pub IsReadFrom : Json → FoldFile → Type 0
-IsReadFrom tree file = IsFileTree tree (tree_of_file file) × IsWritable file
 
 -- a tree is refused at its first misfit, or else shown in its printed form, which becomes a line
 abbrev pub ShowsTree : Json → Outcome
@@ -131,20 +115,6 @@ Shows (input.Fold tree) = ShowsTree tree
 Shows (input.Cp lines) = Answers (cp_form.printed_form lines)
 
 -- ---- convert
-
--- the frame has no effective frame, and the status names why
-abbrev pub HasNoFrame : FoldFile → ℕ → Status → Type 0
-HasNoFrame file frame status =
-    (fault : FrameFault) × HasNone file.frames frame fault × (status ≡ of_frame fault)
-
--- the lists of the effective frame don't agree, and the status names where
-abbrev pub HasUnevenLists : FrameInEffect → Status → Type 0
-HasUnevenLists frame status =
-    (fault : ShapeFault) × (misfit_in_effect frame ≡ Some fault) × (status ≡ Shape (Key fault))
-
--- they agree, and so many there are
-abbrev pub HasCounts : FrameInEffect → Counts → Type 0
-HasCounts frame counts = (counts ≡ counts_of frame.entries) × (misfit_in_effect frame ≡ None)
 
 -- what a file says of itself, without its frames
 abbrev pub is_of_file : List ℕ → Bool
@@ -192,6 +162,8 @@ Converts (Frame frame to) (input.Fold tree) = ConvertsTree to frame tree
 Converts (Frame frame to) (input.Cp lines) = Never
 Converts Lines (input.Fold tree) = Never
 Converts Lines (input.Cp lines) = Answers (cp_form.printed_form lines)
+Converts (Drawing number) (input.Fold tree) = Never
+Converts (Drawing number) (input.Cp lines) = DrawsBy number lines
 
 -- ---- all commands
 
@@ -200,11 +172,14 @@ abbrev pub format_of : Command → Format
 format_of (Show options) = options.from
 format_of (Convert (Frame frame to)) = Fold
 format_of (Convert Lines) = Cp
+format_of (Convert (Drawing number)) = Cp
+format_of (Repair options) = options.from
 
 -- what a command makes of what it read
 abbrev pub Makes : Command → Input → Outcome
 Makes (Show options) = Shows
 Makes (Convert options) = Converts options
+Makes (Repair options) = Repairs options
 
 -- what a command makes of the bytes: they aren't read, or it makes something of what they spell
 abbrev pub Does : Command → List ℕ → Outcome
@@ -253,6 +228,10 @@ abbrev pub HasOutcome : List (List ℕ) → Option (List ℕ) → Option (List �
     → Type 0
 HasOutcome words left before after status =
     (bytes : List ℕ) × AreLeft left bytes × KeepsToOutcome words bytes before after status
+
+-- the words ask for nothing but texts, if for anything
+abbrev pub AskForTexts : List (List ℕ) → Type 0
+AskForTexts words = (command : Command) → AreWordsOf words command → IsOnTexts command
 
 -- words and bytes have an outcome
 abbrev pub HaveOutcome : List (List ℕ) → List ℕ → Type 0

@@ -13,16 +13,23 @@ use Rattle.fold_frames.specs.declared.fault.FrameFault.{FrameFault}
 use Rattle.fold_frames.specs.declared.fault.FrameFault.TheVariants as frames
 use Rattle.frame_lines.specs.declared.fault.LinesFault.{LinesFault}
 use Rattle.frame_lines.specs.declared.fault.LinesFault.TheVariants as lines
+use Rattle.crease_input.specs.declared.fault.InputFault.{InputFault}
+use Rattle.crease_input.specs.declared.fault.InputFault.TheVariants as input
+use Rattle.crease_input.specs.declared.fault.Counted.TheVariants.{Vertices}
+use Rattle.drawing_repair.specs.declared.answer.RepairFault.{RepairFault}
+use Rattle.drawing_repair.specs.declared.answer.RepairFault.TheVariants as repair
 use Rattle.fold_keys.specs.declared.fault.FoldFault.{FoldFault}
 use Rattle.fold_keys.specs.declared.fault.FoldFault.TheVariants as keys
 use Rattle.fold_program.specs.declared.status.Status.{Status}
-use Rattle.fold_program.specs.declared.status.Status.TheVariants.{Done, Text, Shape, Sheet, Words}
+use Rattle.fold_program.specs.declared.status.Status.TheVariants.{Done, Text, Shape, Sheet, Number, Words}
 use Rattle.fold_program.specs.declared.status.Status.TheVariants.{Read, Write, Limit, Memory}
 use Rattle.fold_program.specs.declared.status.TextFault.TheVariants.{Json, Cp}
-use Rattle.fold_program.specs.declared.status.ShapeCause.TheVariants.{Key, NoFrame, ParentRange, ParentLoop, NotFlat}
-use Rattle.fold_program.specs.declared.status.SheetCause.TheVariants.{Missing}
+use Rattle.fold_program.specs.declared.status.ShapeCause.TheVariants.{Key, NoFrame, ParentRange, ParentLoop, NotFlat, Stale}
+use Rattle.fold_program.specs.declared.status.SheetCause.TheVariants.{Check, Missing}
+use Rattle.fold_program.specs.declared.status.SheetFlaw.TheVariants.{Parted}
+use Rattle.fold_program.specs.declared.status.NumberCause.TheVariants.{TooWide, Unread}
 use Rattle.fold_program.specs.declared.status.WordsCause.TheVariants.{Refused}
-use Rattle.fold_program.specs.declared.status.Limit.TheVariants.{TooLong}
+use Rattle.fold_program.specs.declared.status.Limit.TheVariants.{TooLong, TooMany}
 
 -- the exit status of the process
 abbrev pub code_of : Status → ℕ
@@ -30,6 +37,7 @@ code_of Done = 0
 code_of (Text fault) = 2
 code_of (Shape cause) = 3
 code_of (Sheet cause) = 4
+code_of (Number cause) = 5
 code_of (Words cause) = 6
 code_of Read = 7
 code_of Write = 8
@@ -86,6 +94,22 @@ abbrev pub of_lines : LinesFault → Status
 of_lines (lines.Missing key) = Sheet (Missing key)
 of_lines (lines.NotFlat vertex) = Shape (NotFlat vertex)
 of_lines (lines.Memory error) = Memory
+
+-- the status where what is read has no vertices and edges
+abbrev pub of_input : InputFault → Status
+of_input (input.Missing key) = Sheet (Missing key)
+of_input (input.TooMany what) = Limit (TooMany what)
+of_input (input.NotFlat vertex) = Shape (NotFlat vertex)
+of_input (input.Unread vertex axis cause) = Number (Unread vertex axis cause)
+of_input (input.Stale vertex) = Shape (Stale vertex)
+of_input (input.Memory error) = Memory
+
+-- the status where segments have no drawing
+abbrev pub of_repair : RepairFault → Status
+of_repair (repair.TooWide vertex stage) = Number (TooWide vertex stage)
+of_repair repair.TooMany = Limit (TooMany Vertices)
+of_repair (repair.Parted vertex) = Sheet (Check (Parted vertex))
+of_repair (repair.Memory error) = Memory
 
 -- the status where `clap` doesn't take the words: want of memory is no fault of theirs
 abbrev pub IsOfWords : Error → Status → Type 0

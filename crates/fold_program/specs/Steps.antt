@@ -27,6 +27,10 @@ Answers due status text = (status ≡ Done) × (text ≡ due)
 abbrev pub Never : Outcome
 Never status text = ⊥
 
+-- the outcome is one at most: one status, and one text
+abbrev pub IsOne : Outcome → Type 0
+IsOne outcome = (s s' : Status) (t t' : List ℕ) → outcome s t → outcome s' t' → (s ≡ s') × (t ≡ t')
+
 -- a status with which a command may stop once it has read: what was read decides it, and nothing
 -- else
 abbrev pub IsStop : Status → Type 0

@@ -8,17 +8,26 @@ use Rattle.clap.specs.Words.{App, Kinds, Row, Rule, Shape, fault_of, first_of, n
 use Rattle.clap.specs.Words.{subcommand_of, with_subcommand}
 use Rattle.clap.specs.Simple.{new_shape}
 use Rattle.clap.specs.declared.builder.action.ArgAction.TheVariants.{Set}
+use Rattle.drawing_repair.specs.declared.options.Faces.{Faces}
+use Rattle.drawing_repair.specs.declared.options.Faces.TheVariants.{Find, Skip}
+use Rattle.drawing_repair.specs.declared.options.Flat.{Flat}
+use Rattle.drawing_repair.specs.declared.options.Flat.TheVariants.{Keep, Drop}
 use Rattle.fold_keys.specs.Elements.{id_in_text}
+use Rattle.fold_program.specs.NumberOption.{NamesChoice}
+use Rattle.fold_program.specs.declared.number_option.NumberChoice.{NumberChoice}
+use Rattle.fold_program.specs.declared.number_option.NumberChoice.TheVariants.{Exact}
 use Rattle.fold_program.specs.declared.words.Entry.{Entry}
 use Rattle.fold_program.specs.declared.words.Command.{Command}
-use Rattle.fold_program.specs.declared.words.Command.TheVariants.{Show, Convert}
+use Rattle.fold_program.specs.declared.words.Command.TheVariants.{Show, Convert, Repair}
 use Rattle.fold_program.specs.declared.words.ConvertOptions.{ConvertOptions}
-use Rattle.fold_program.specs.declared.words.ConvertOptions.TheVariants.{Frame, Lines}
+use Rattle.fold_program.specs.declared.words.ConvertOptions.TheVariants.{Frame, Lines, Drawing}
+use Rattle.fold_program.specs.declared.words.RepairOptions.{RepairOptions}
 use Rattle.fold_program.specs.declared.words.ShowOptions.{ShowOptions}
 use Rattle.fold_program.specs.declared.words.Format.{Format}
 use Rattle.fold_program.specs.declared.words.Format.TheVariants.{Fold, Cp}
 use Rattle.fold_program.specs.declared.status.Status.{Status}
 use Rattle.fold_program.specs.declared.status.Status.TheVariants.{Words, Memory}
+use Rattle.fold_program.specs.declared.status.WordsCause.{WordsCause}
 use Rattle.fold_program.specs.declared.status.WordsCause.TheVariants.{Refused, Value}
 
 abbrev pub Text : Type 0
@@ -38,7 +47,11 @@ pub record Listed : Type 0 where
 abbrev pub table : List Listed
 table =
     record { name = codes "show"; options = codes "from" ∷ [] } ∷
-    record { name = codes "convert"; options = codes "from" ∷ codes "to" ∷ codes "frame" ∷ [] } ∷
+    record { name = codes "convert"; options = codes "from" ∷ codes "to" ∷ codes "frame" ∷ codes "number" ∷ [] } ∷
+    record {
+      name = codes "repair";
+      options = codes "from" ∷ codes "to" ∷ codes "frame" ∷ codes "number" ∷ codes "flat" ∷ codes "faces" ∷ [];
+    } ∷
     []
 
 -- the text that names a format
@@ -53,6 +66,22 @@ NamesFormat text format = text ≡ name_of format
 abbrev pub NamesNumber : Text → ℕ → Type 0
 NamesNumber text number = id_in_text text ≡ Some number
 
+-- the text that names what becomes of segments with the letter F
+abbrev pub name_of_flat : Flat → Text
+name_of_flat Keep = codes "keep"
+name_of_flat Drop = codes "drop"
+
+abbrev pub NamesFlat : Text → Flat → Type 0
+NamesFlat text flat = text ≡ name_of_flat flat
+
+-- the text that names whether faces are looked for
+abbrev pub name_of_faces : Faces → Text
+name_of_faces Find = codes "yes"
+name_of_faces Skip = codes "no"
+
+abbrev pub NamesFaces : Text → Faces → Type 0
+NamesFaces text faces = text ≡ name_of_faces faces
+
 -- what is said of an option: its value is the one that the text names, and its default where
 -- nothing is said
 abbrev pub Says : {X : Type 0} → (Text → X → Type 0) → X → Option Text → X → Type 0
@@ -63,27 +92,39 @@ Says names default (Some text) value = names text value
 abbrev pub MeanShow : (Text → Option Text) → ShowOptions → Type 0
 MeanShow said options = Says NamesFormat Fold (said (codes "from")) options.from
 
--- what is converted between these formats; lines aren't converted to a FOLD file
-abbrev pub IsConversion : Format → Format → ℕ → ConvertOptions → Type 0
-IsConversion from to number (Frame frame other) = (from ≡ Fold) × (to ≡ other) × (number ≡ frame)
-IsConversion from to number Lines = (from ≡ Cp) × (to ≡ Cp)
-
-abbrev pub IsUnbuilt : Format → Format → Type 0
-IsUnbuilt from to = (from ≡ Cp) × (to ≡ Fold)
+-- what is converted between these formats: a frame of a file, lines as they are, or lines to a file
+-- by a choice of numbers
+abbrev pub IsConversion : Format → Format → ℕ → NumberChoice → ConvertOptions → Type 0
+IsConversion from to place choice (Frame frame other) =
+    (from ≡ Fold) × (to ≡ other) × (place ≡ frame)
+IsConversion from to place choice Lines = (from ≡ Cp) × (to ≡ Cp)
+IsConversion from to place choice (Drawing number) =
+    (from ≡ Cp) × (to ≡ Fold) × (choice ≡ number)
 
 -- what is said of each option means a conversion
 abbrev pub MeanConvert : (Text → Option Text) → ConvertOptions → Type 0
 MeanConvert said options =
-    (from to : Format) × (frame : ℕ)
+    (from to : Format) × (frame : ℕ) × (number : NumberChoice)
     × Says NamesFormat Fold (said (codes "from")) from
     × Says NamesFormat Fold (said (codes "to")) to
     × Says NamesNumber 0 (said (codes "frame")) frame
-    × IsConversion from to frame options
+    × Says NamesChoice Exact (said (codes "number")) number
+    × IsConversion from to frame number options
+
+-- what is said of each option means these
+pub record MeanRepair (said : Text → Option Text) (options : RepairOptions) : Type 0 where
+  pub from : Says NamesFormat Fold (said (codes "from")) options.from
+  pub to : Says NamesFormat Fold (said (codes "to")) options.to
+  pub frame : Says NamesNumber 0 (said (codes "frame")) options.frame
+  pub number : Says NamesChoice Exact (said (codes "number")) options.number
+  pub flat : Says NamesFlat Keep (said (codes "flat")) options.flat
+  pub faces : Says NamesFaces Find (said (codes "faces")) options.faces
 
 -- a command's name, and what is said of each option, mean this command
 abbrev pub Mean : Text → (Text → Option Text) → Command → Type 0
 Mean name said (Show options) = (name ≡ codes "show") × MeanShow said options
 Mean name said (Convert options) = (name ≡ codes "convert") × MeanConvert said options
+Mean name said (Repair options) = (name ≡ codes "repair") × MeanRepair said options
 
 -- ---- the words as `clap` takes them
 
@@ -148,10 +189,22 @@ AreRefused words status =
 abbrev pub MeansNone : {X : Type 0} → (X → Type 0) → Status → Type 0
 MeansNone {X} mean status = (status ≡ Memory) ⊎ ((status ≡ Words Value) × ((x : X) → ¬ mean x))
 
+-- what is said of an option names no value, and that is the cause
+abbrev pub NamesNothing : {X : Type 0} → (Text → X → Type 0) → X → Option Text → WordsCause → Type 0
+NamesNothing {X} names default said cause =
+    (cause ≡ Value) × ((x : X) → ¬ Says names default said x)
+
 -- the command reads the input
 abbrev pub Reads : Command → Type 0
 Reads (Show options) = Unit {0}
 Reads (Convert options) = Unit {0}
+Reads (Repair options) = Unit {0}
+
+-- the command works on texts alone: that it has an outcome is shown
+abbrev pub IsOnTexts : Command → Type 0
+IsOnTexts (Show options) = Unit {0}
+IsOnTexts (Convert options) = Unit {0}
+IsOnTexts (Repair options) = ⊥
 
 -- nothing is taken from the source: the words are refused, or their command reads no input
 abbrev pub TakeNothing : List Text → Type 0

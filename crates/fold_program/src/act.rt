@@ -4,6 +4,7 @@ ghost use Rattle.fold_program.specs.Outcome.{HasFormat, HasMisfit, IsReadFrom, I
 
 use crate::convert::convert;
 use crate::input::Input;
+use crate::repair::repair;
 use crate::status::Status;
 use crate::words::Command;
 use cp_lines::print_cp;
@@ -21,6 +22,7 @@ pub fn act(alloc: Global, command: &Command, input: Input) -> Result<Text, Statu
     match command {
         Command::Show(_) => show(alloc, input),
         Command::Convert(options) => convert(alloc, options, input),
+        Command::Repair(options) => repair(alloc, options, input),
     }
 }
 

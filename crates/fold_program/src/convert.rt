@@ -11,15 +11,17 @@ ghost use Rattle.fold_program.specs.Steps.{Follows, Steps};
 ghost use Rattle.fold_program.specs.Outcome.{Converts, ConvertsFile, ConvertsFrame, ConvertsTree, LacksLines, WritesFrame, WritesLines, format_of, HasCounts, HasFormat, HasNoFrame, HasUnevenLists, IsSound, IsSoundTree, is_of_file, of_file, with_frame};
 
 use crate::act::read_file;
+use crate::draw::draw;
+use crate::drawing::line_of_file;
 use crate::input::Input;
 use crate::status::Status;
 use crate::words::{ConvertOptions, Format};
 use cp_lines::{CpLine, print_cp};
 use fold_base::{List, Text};
 use fold_frames::{Counts, Effective, effective};
-use fold_keys::{Entry, FoldFile, Frame, copy_value, to_json, writable_entries};
+use fold_keys::{Entry, FoldFile, Frame, copy_value, writable_entries};
 use frame_lines::frame_lines;
-use json_tree::{Json, print};
+use json_tree::Json;
 use std::alloc::{AllocError, Global};
 
 /// The drawing in another format, or in the same.
@@ -36,6 +38,10 @@ pub fn convert(alloc: Global, options: &ConvertOptions, input: Input) -> Result<
         ConvertOptions::Lines => match input {
             Input::Fold(_) => unreachable!(),
             Input::Cp(lines) => Ok(print_cp(alloc, &lines)?),
+        },
+        ConvertOptions::Drawing { number } => match input {
+            Input::Fold(_) => unreachable!(),
+            Input::Cp(lines) => draw(alloc, *number, lines),
         },
     }
 }
@@ -79,9 +85,7 @@ fn write_frame(alloc: Global, file: &FoldFile, frame: &Effective) -> Result<Text
     ensures { Follows (WritesFrame Fold file.now frame.now) result }
 {
     let made = with_frame(alloc, file, frame)?;
-    let mut text = print(alloc, &to_json(alloc, &made)?)?;
-    text.push('\n')?;
-    Ok(text)
+    Ok(line_of_file(alloc, &made)?)
 }
 
 /// A line for each edge of the frame.

@@ -7,7 +7,7 @@ ghost use Rattle.fold_program.specs.Outside.{Takes, TakesAll};
 
 use crate::status::Status;
 use crate::words::Format;
-use cp_lines::{CpLine, read_cp};
+use cp_lines::{CpLine, read_cp, short_lines};
 use fold_base::{List, MOST_BYTES, PieceTaker, ReadFault, Source, read_pieces};
 use fold_keys::read_trees_are_readable;
 use json_read::JsonReader;
@@ -39,6 +39,7 @@ pub fn read_input<S: Source>(alloc: Global, format: Format, source: &mut S) -> R
             Ok(Input::Fold(reader.finish()?))
         }
         Format::Cp => {
+            short_lines();
             let bytes = read_whole(source, List::new(alloc))?;
             Ok(Input::Cp(read_cp(alloc, bytes.as_slice())?))
         }

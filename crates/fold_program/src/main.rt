@@ -2,14 +2,22 @@
 //!
 //! `fold_program show` reads a FOLD file, which is JSON, from standard input and writes it in
 //! printed form; `fold_program show --from=cp` does so with CP text. `fold_program convert --frame=2`
-//! writes frame 2 of a FOLD file, with all that it inherits, as a file of its own.
+//! writes frame 2 of a FOLD file, with all that it inherits, as a file of its own, and
+//! `fold_program convert --from=cp` CP text as a FOLD file. `fold_program repair` cuts the segments of
+//! either into vertices and pieces, and finds the faces.
 #![tactic(auto)]
 
 mod act;
 mod arguments;
 mod convert;
+mod denominator;
+mod draw;
+mod drawing;
+mod given;
 mod input;
 mod notes;
+mod number_option;
+mod repair;
 mod run;
 mod status;
 mod words;
@@ -20,6 +28,10 @@ use run::run;
 use std::io;
 use std::process::ExitCode;
 
+#[cfg(test)]
+mod drawing_tests;
+#[cfg(test)]
+mod repair_tests;
 #[cfg(test)]
 mod tests;
 

@@ -5,18 +5,23 @@ ghost use Rattle.fold_program.specs.Status.{status_of};
 ghost use Rattle.fold_program.specs.Steps.{Ends};
 ghost use Rattle.fold_program.specs.Words.{texts, AreWordsOf, AreRefused, ArePlainWordsOf};
 ghost use Rattle.fold_program.specs.Notes.{IsNoted};
-ghost use Rattle.fold_program.specs.Outcome.{IsOutcome, AreInput, AreLeft, IsOutcomeWritten, KeepsToOutcome, HasOutcome, HaveOutcome, HaveAtMostOneOutcome};
+ghost use Rattle.fold_program.specs.Outcome.{IsOutcome, AreInput, AreLeft, IsOutcomeWritten, KeepsToOutcome, AskForTexts, HasOutcome, HaveOutcome, HaveAtMostOneOutcome};
 ghost use Rattle.fold_program.specs.Outside.{PutsInto, TakesFrom};
+ghost use Rattle.fold_program.specs.Regions.{WritesRegions};
 
 use crate::act::act;
 use crate::input::read_input;
 use crate::notes::note;
+use crate::repair::one_repair;
 use crate::status::Status;
 use crate::words::{Command, read_words};
+use crease_input::one_file;
 use fold_base::{CalmSink, CalmSource, List, Sink, Source, Text, write_all_bytes};
 use fold_frames::{one_effective_frame, trees_have_files};
 use fold_keys::{read_trees_are_readable, written_reads_back};
 use json_tree::spelled_trees_are_proper;
+use rational::Rational;
+use root_two::{RootThree, RootTwo};
 use std::alloc::Global;
 
 /// Does what the words say with the bytes of the source.
@@ -42,6 +47,11 @@ pub fn run<S: Source, T: Sink, E: Sink>(
         (bytes : List ℕ) → AreInput (texts words.now) (S.left source.old) bytes →
         (result ≡ Status.Memory)
         ⊎ IsOutcomeWritten (texts words.now) bytes
+        (T.written sink.old) (T.written sink.new) result }
+
+    // The faces that `repair` writes in a file are the bounded regions of the drawing that it writes,
+    // each once.
+    ensures regions { WritesRegions (texts words.now)
         (T.written sink.old) (T.written sink.new) result }
 
     // No byte is taken after the first that is past the limit, and none where the words take
@@ -72,9 +82,9 @@ pub fn run_calm<E: Sink>(
     run(alloc, words, &mut source, &mut CalmSink::new(), notes)
 }
 
-/// Words and bytes have one outcome.
+/// Words and bytes have one outcome at most, and those of commands on texts have one.
 pub fn one_outcome()
-    ensures some { (words : List (List ℕ)) (bytes : List ℕ) → HaveOutcome words bytes }
+    ensures some { (words : List (List ℕ)) (bytes : List ℕ) → AskForTexts words → HaveOutcome words bytes }
     ensures one { (words : List (List ℕ)) (bytes : List ℕ) → HaveAtMostOneOutcome words bytes }
 {
     cp_lines::one_reading();
@@ -84,6 +94,15 @@ pub fn one_outcome()
     trees_have_files();
     written_reads_back();
     one_effective_frame();
+    crease_input::one_reading::<Rational>();
+    crease_input::one_reading::<RootTwo>();
+    crease_input::one_reading::<RootThree>();
+    one_file::<Rational>();
+    one_file::<RootTwo>();
+    one_file::<RootThree>();
+    one_repair::<Rational>();
+    one_repair::<RootTwo>();
+    one_repair::<RootThree>();
 }
 
 /// Words of the plain form mean the command that they say, and are never refused.

@@ -1,13 +1,17 @@
 // What the program ends with.
 ghost use Rattle.std.specs.Prelude.{◌≡◌};
+ghost use Rattle.fold_program.specs.Notes.{axis_name, counted_name, stage_name, unread_words};
 
 use clap::error::ErrorKind;
 use cp_lines::{CpFault, CpReadFault};
+use crease_input::{Axis, Counted, InputFault};
+use drawing_repair::{RepairFault, Stage};
 use fold_base::{ReadFault, Text};
 use fold_frames::FrameFault;
 use fold_keys::{FoldFault, ShapeFault};
 use frame_lines::LinesFault;
 use json_read::{JsonFault, JsonReadFault};
+use number_rules::Unread;
 use std::alloc::AllocError;
 use std::fmt;
 
@@ -18,6 +22,7 @@ pub enum Status {
     Text(TextFault),
     Shape(ShapeCause),
     Sheet(SheetCause),
+    Number(NumberCause),
     Words(WordsCause),
     /// The input can't be read to its end.
     Read,
@@ -48,6 +53,8 @@ pub enum ShapeCause {
     ParentLoop { frame: u32 },
     /// The third coordinate of this vertex isn't 0.
     NotFlat { vertex: u32 },
+    /// A coordinate of this vertex isn't its exact number, rounded to nine decimals.
+    Stale { vertex: u32 },
 }
 
 /// Why a frame is no sheet of the kind that the command asks for.
@@ -55,6 +62,32 @@ pub enum ShapeCause {
 pub enum SheetCause {
     /// The frame lacks this key.
     Missing { key: Text },
+    Check(SheetFlaw),
+}
+
+/// What keeps a drawing from being a sheet.
+#[derive(Clone, Copy, Debug, PartialEq, Eq)]
+pub enum SheetFlaw {
+    /// No edges join this vertex to vertex 0.
+    Parted { vertex: u32 },
+}
+
+/// Why numbers can't be computed with.
+#[derive(Clone, Copy, Debug, PartialEq, Eq)]
+pub enum NumberCause {
+    /// A coordinate of this vertex is no number by the rule. The ends of lines are told as vertices,
+    /// two for each line.
+    Unread {
+        vertex: u32,
+        axis: Axis,
+        cause: Unread,
+    },
+    /// The coordinates of this vertex are too wide: of those that were given, or of the vertices of the
+    /// drawing.
+    TooWide {
+        vertex: u32,
+        stage: Stage,
+    },
 }
 
 #[derive(Clone, Copy, Debug, PartialEq, Eq)]
@@ -69,6 +102,8 @@ pub enum WordsCause {
 pub enum Limit {
     /// The input has more than `MOST_BYTES` bytes.
     TooLong,
+    /// There are more of these than are computed with.
+    TooMany { what: Counted },
 }
 
 impl Status {
@@ -83,6 +118,7 @@ impl Status {
             Status::Text(_) => 2,
             Status::Shape(_) => 3,
             Status::Sheet(_) => 4,
+            Status::Number(_) => 5,
             Status::Words(_) => 6,
             Status::Read => 7,
             Status::Write => 8,
@@ -184,6 +220,52 @@ impl From<LinesFault> for Status {
     }
 }
 
+impl From<InputFault> for Status {
+    ghost use Rattle.fold_program.specs.Status.{of_input};
+
+    ghost from_gives = { λ fault status. status ≡ of_input fault };
+
+    fn from(fault: InputFault) -> Status {
+        match fault {
+            InputFault::Missing { key } => Status::Sheet(SheetCause::Missing { key }),
+            InputFault::TooMany { what } => Status::Limit(Limit::TooMany { what }),
+            InputFault::NotFlat { vertex } => Status::Shape(ShapeCause::NotFlat { vertex }),
+            InputFault::Unread {
+                vertex,
+                axis,
+                cause,
+            } => Status::Number(NumberCause::Unread {
+                vertex,
+                axis,
+                cause,
+            }),
+            InputFault::Stale { vertex } => Status::Shape(ShapeCause::Stale { vertex }),
+            InputFault::Memory(_) => Status::Memory,
+        }
+    }
+}
+
+impl From<RepairFault> for Status {
+    ghost use Rattle.fold_program.specs.Status.{of_repair};
+
+    ghost from_gives = { λ fault status. status ≡ of_repair fault };
+
+    fn from(fault: RepairFault) -> Status {
+        match fault {
+            RepairFault::TooWide { vertex, stage } => {
+                Status::Number(NumberCause::TooWide { vertex, stage })
+            }
+            RepairFault::TooMany => Status::Limit(Limit::TooMany {
+                what: Counted::Vertices,
+            }),
+            RepairFault::Parted { vertex } => {
+                Status::Sheet(SheetCause::Check(SheetFlaw::Parted { vertex }))
+            }
+            RepairFault::Memory(_) => Status::Memory,
+        }
+    }
+}
+
 impl From<clap::Error> for Status {
     ghost use Rattle.fold_program.specs.Status.{IsOfWords};
 
@@ -220,6 +302,7 @@ impl fmt::Display for Status {
             Status::Text(fault) => write!(f, "{fault}"),
             Status::Shape(cause) => write!(f, "{cause}"),
             Status::Sheet(cause) => write!(f, "{cause}"),
+            Status::Number(cause) => write!(f, "{cause}"),
             Status::Words(cause) => write!(f, "{cause}"),
             Status::Read => f.write_str("read failed"),
             Status::Write => f.write_str("write failed"),
@@ -258,6 +341,7 @@ impl fmt::Display for ShapeCause {
             ShapeCause::ParentRange { frame } => write!(f, "parent range {frame}"),
             ShapeCause::ParentLoop { frame } => write!(f, "parent loop {frame}"),
             ShapeCause::NotFlat { vertex } => write!(f, "not flat {vertex}"),
+            ShapeCause::Stale { vertex } => write!(f, "stale {vertex}"),
         }
     }
 }
@@ -273,11 +357,93 @@ impl fmt::Display for SheetCause {
     fn fmt<W: fmt::Write>(&self, f: &mut fmt::Formatter<W>) -> fmt::Result {
         match self {
             SheetCause::Missing { key } => write!(f, "missing {key}"),
+            SheetCause::Check(flaw) => write!(f, "{flaw}"),
         }
     }
 }
 
 impl std::error::Error for SheetCause {}
+
+impl fmt::Display for SheetFlaw {
+    ghost use Rattle.std.specs.Prelude.{Some};
+    ghost use Rattle.fold_program.specs.Notes.{flaw_message};
+
+    ghost output = { λ flaw. Some (flaw_message flaw) };
+
+    fn fmt<W: fmt::Write>(&self, f: &mut fmt::Formatter<W>) -> fmt::Result {
+        match self {
+            SheetFlaw::Parted { vertex } => write!(f, "parted {vertex}"),
+        }
+    }
+}
+
+impl std::error::Error for SheetFlaw {}
+
+impl fmt::Display for NumberCause {
+    ghost use Rattle.std.specs.Prelude.{Some};
+    ghost use Rattle.fold_program.specs.Notes.{number_message};
+
+    ghost output = { λ cause. Some (number_message cause) };
+
+    fn fmt<W: fmt::Write>(&self, f: &mut fmt::Formatter<W>) -> fmt::Result {
+        match self {
+            NumberCause::Unread {
+                vertex,
+                axis,
+                cause,
+            } => {
+                let axis = axis_name(*axis);
+                let cause = unread_words(*cause);
+                write!(f, "unread {vertex} {axis}: {cause}")
+            }
+            NumberCause::TooWide { vertex, stage } => {
+                let stage = stage_name(*stage);
+                write!(f, "too wide {vertex} {stage}")
+            }
+        }
+    }
+}
+
+impl std::error::Error for NumberCause {}
+
+fn axis_name(axis: Axis) -> &'static str
+    ensures { result.now ≡ axis_name axis }
+{
+    match axis {
+        Axis::X => "x",
+        Axis::Y => "y",
+    }
+}
+
+fn stage_name(stage: Stage) -> &'static str
+    ensures { result.now ≡ stage_name stage }
+{
+    match stage {
+        Stage::Input => "input",
+        Stage::Drawn => "drawn",
+    }
+}
+
+fn unread_words(cause: Unread) -> &'static str
+    ensures { result.now ≡ unread_words cause }
+{
+    match cause {
+        Unread::Far => "far",
+        Unread::Fine => "fine",
+        Unread::NoRoot => "no root",
+        Unread::ExactText => "exact text",
+    }
+}
+
+fn counted_name(what: Counted) -> &'static str
+    ensures { result.now ≡ counted_name what }
+{
+    match what {
+        Counted::Vertices => "vertices",
+        Counted::Segments => "segments",
+        Counted::Faces => "faces",
+    }
+}
 
 impl fmt::Display for WordsCause {
     ghost use Rattle.std.specs.Prelude.{Some};
@@ -302,9 +468,13 @@ impl fmt::Display for Limit {
     ghost output = { λ limit. Some (limit_message limit) };
 
     fn fmt<W: fmt::Write>(&self, f: &mut fmt::Formatter<W>) -> fmt::Result {
-        f.write_str(match self {
-            Limit::TooLong => "too long",
-        })
+        match self {
+            Limit::TooLong => f.write_str("too long"),
+            Limit::TooMany { what } => {
+                let what = counted_name(*what);
+                write!(f, "too many {what}")
+            }
+        }
     }
 }
 

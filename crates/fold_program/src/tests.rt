@@ -1,4 +1,6 @@
 use crate::arguments::words_after_name;
+use crate::denominator::Denominator;
+use crate::number_option::NumberChoice;
 use crate::run::{run, run_calm};
 use crate::status::{Limit, ShapeCause, SheetCause, Status, TextFault, WordsCause};
 use crate::words::{Command, ConvertOptions, Format, ShowOptions, read_words};
@@ -635,12 +637,15 @@ fn reads_words(rt: HostRuntime) -> Result<(), Fail> {
 
 #[test]
 fn reads_words_of_convert(rt: HostRuntime) -> Result<(), Fail> {
-    use ConvertOptions::{Frame, Lines};
+    use ConvertOptions::{Drawing, Frame, Lines};
     let to = Format::Fold;
+    let drawing = |number| Ok(Drawing { number });
+    let thousand = Denominator::new(1000).ok_or("denominator")?;
+    let million = Denominator::new(1_000_000).ok_or("denominator")?;
     let refused = Err(WordsCause::Refused);
     let value = Err(WordsCause::Value);
     let cp = Format::Cp;
-    let rows: [(&[&str], Result<ConvertOptions, WordsCause>); 21] = [
+    let rows: [(&[&str], Result<ConvertOptions, WordsCause>); 38] = [
         (&["convert"], Ok(Frame { frame: 0, to })),
         (&["convert", "--frame=0"], Ok(Frame { frame: 0, to })),
         (
@@ -662,7 +667,43 @@ fn reads_words_of_convert(rt: HostRuntime) -> Result<(), Fail> {
         (&["convert", "--to=cp", "--from=cp"], Ok(Lines)),
         (&["convert", "--to=cp", "--from=cp", "--frame=7"], Ok(Lines)),
         (&["convert", "--to=cp", "--from=cp", "--frame=07"], value),
-        (&["convert", "--from=cp"], value),
+        (&["convert", "--from=cp"], drawing(NumberChoice::Exact)),
+        (
+            &["convert", "--from=cp", "--to=fold", "--number=exact"],
+            drawing(NumberChoice::Exact),
+        ),
+        (
+            &["convert", "--number=grid:1000", "--from=cp"],
+            drawing(NumberChoice::Grid(thousand)),
+        ),
+        (
+            &["convert", "--from=cp", "--number", "root2:1000000"],
+            drawing(NumberChoice::RootTwo(million)),
+        ),
+        (
+            &["convert", "--from=cp", "--frame=7", "--number=root3:1000"],
+            drawing(NumberChoice::RootThree(thousand)),
+        ),
+        // No number is read, and so nothing comes of the choice.
+        (&["convert", "--number=grid:7"], Ok(Frame { frame: 0, to })),
+        (
+            &["convert", "--to=cp", "--number=root2:7"],
+            Ok(Frame { frame: 0, to: cp }),
+        ),
+        (
+            &["convert", "--to=cp", "--from=cp", "--number=grid:7"],
+            Ok(Lines),
+        ),
+        (&["convert", "--number=grid:0"], value),
+        (&["convert", "--number=grid:01"], value),
+        (&["convert", "--number=grid:1000001"], value),
+        (&["convert", "--number=grid:4294967297"], value),
+        (&["convert", "--number=grid:"], value),
+        (&["convert", "--number=grid"], value),
+        (&["convert", "--number=root5:1"], value),
+        (&["convert", "--number=root2:+1"], value),
+        (&["convert", "--number=Exact"], value),
+        (&["convert", "--number=exact:1"], value),
         (&["convert", "--frame=4294967296"], value),
         (&["convert", "--frame="], value),
         (&["convert", "--frame=01"], value),
@@ -671,7 +712,7 @@ fn reads_words_of_convert(rt: HostRuntime) -> Result<(), Fail> {
         (&["convert", "--frame=fold"], value),
         (&["convert", "--to=opx", "--frame=1"], value),
         (&["convert", "--frame=1", "--frame=1"], refused),
-        (&["convert", "--number=exact"], refused),
+        (&["show", "--number=exact"], refused),
         (&["convert", "7"], refused),
         (&["show", "--frame=0"], refused),
     ];

@@ -1,13 +1,13 @@
 // The words of the command line, read by the crate `clap`.
-ghost use Rattle.std.specs.Prelude.{◌≡◌, ◌≢◌, ◌⊎◌, [], IfOk, IfErr, MatchOption, false, option_map};
+ghost use Rattle.std.specs.Prelude.{◌≡◌, ◌≢◌, ◌⊎◌, [], IfOk, IfErr, false, option_map};
 ghost use Rattle.clap.specs.Words.{app_of, found_of, rows_of, shape_of, subcommand_rows_of};
 ghost use Rattle.clap.specs.declared.builder.command.Command.TheViews.{out-Command};
-ghost use Rattle.fold_keys.specs.Elements.{id_in_text};
-ghost use Rattle.fold_program.specs.Words.{texts, app, faults, found, as_listed, subcommand_shape, said_in, IsConversion, IsUnbuilt, Mean, MeanShow, MeanConvert, MeansNone, NamesFormat, NamesNumber, Says, AreWordsOf, AreRefused};
+ghost use Rattle.fold_program.specs.Words.{texts, app, faults, found, as_listed, subcommand_shape, said_in, IsConversion, Mean, MeanShow, MeanConvert, MeanRepair, MeansNone, NamesFaces, NamesFlat, NamesFormat, NamesNothing, NamesNumber, Says, AreWordsOf, AreRefused};
 
+use crate::number_option::{NumberChoice, number_in, number_of};
 use crate::status::{Status, WordsCause};
 use clap::{Arg, ArgAction, ArgMatches};
-use json_tree::{NumberReadFault, NumberText};
+use drawing_repair::{Faces, Flat};
 use std::alloc::{AllocError, Global};
 
 /// What the words ask for.
@@ -18,6 +18,9 @@ pub enum Command {
     /// Prints a drawing in the other or the same format: of a FOLD file one frame with all that it
     /// inherits.
     Convert(ConvertOptions),
+    /// Prints the segments of CP text, or the edges of a frame, as a drawing: its vertices, the pieces
+    /// between them, and its faces.
+    Repair(RepairOptions),
 }
 
 #[derive(Clone, Copy, Debug, PartialEq, Eq)]
@@ -31,6 +34,19 @@ pub enum ConvertOptions {
     Frame { frame: u32, to: Format },
     /// CP text, to CP text.
     Lines,
+    /// CP text, to a FOLD file with coordinates read by this choice.
+    Drawing { number: NumberChoice },
+}
+
+#[derive(Clone, Copy, Debug, PartialEq, Eq)]
+pub struct RepairOptions {
+    pub from: Format,
+    pub to: Format,
+    /// The frame of a FOLD file.
+    pub frame: u32,
+    pub number: NumberChoice,
+    pub flat: Flat,
+    pub faces: Faces,
 }
 
 #[derive(Clone, Copy, Debug, PartialEq, Eq)]
@@ -52,6 +68,8 @@ impl Command {
             Command::Show(options) => options.from,
             Command::Convert(ConvertOptions::Frame { .. }) => Format::Fold,
             Command::Convert(ConvertOptions::Lines) => Format::Cp,
+            Command::Convert(ConvertOptions::Drawing { .. }) => Format::Cp,
+            Command::Repair(options) => options.from,
         }
     }
 }
@@ -62,14 +80,18 @@ pub struct Entry {
     options: &'static [&'static str],
 }
 
-static TABLE: [Entry; 2] = [
+static TABLE: [Entry; 3] = [
     Entry {
         name: "show",
         options: &["from"],
     },
     Entry {
         name: "convert",
-        options: &["from", "to", "frame"],
+        options: &["from", "to", "frame", "number"],
+    },
+    Entry {
+        name: "repair",
+        options: &["from", "to", "frame", "number", "flat", "faces"],
     },
 ];
 
@@ -130,6 +152,8 @@ fn command_of(alloc: Global, name: &str, options: &ArgMatches<'_>) -> Result<Com
         Ok(Command::Show(show_options(options)?))
     } else if name == "convert" {
         Ok(Command::Convert(convert_options(alloc, options)?))
+    } else if name == "repair" {
+        Ok(Command::Repair(repair_options(alloc, options)?))
     } else {
         // `clap` finds no command but those of the table.
         Err(Status::Words(WordsCause::Value))
@@ -153,20 +177,80 @@ fn convert_options(alloc: Global, options: &ArgMatches<'_>) -> Result<ConvertOpt
     let from = format_of(options.get_str("from"))?;
     let to = format_of(options.get_str("to"))?;
     let frame = frame_of(alloc, options.get_str("frame"))?;
-    match conversion(from, to, frame) {
-        Some(options) => Ok(options),
-        None => Err(Status::Words(WordsCause::Value)),
+    let number = number_of(alloc, options.get_str("number"))?;
+    Ok(conversion(from, to, frame, number))
+}
+
+/// The conversion between these formats. A frame's number says nothing of lines, and the choice of
+/// numbers nothing where none are read.
+fn conversion(from: Format, to: Format, frame: u32, number: NumberChoice) -> ConvertOptions
+    ensures { IsConversion from to frame number result }
+{
+    match (from, to) {
+        (Format::Fold, to) => ConvertOptions::Frame { frame, to },
+        (Format::Cp, Format::Cp) => ConvertOptions::Lines,
+        (Format::Cp, Format::Fold) => ConvertOptions::Drawing { number },
     }
 }
 
-/// The conversion between these formats, if there is one.
-fn conversion(from: Format, to: Format, frame: u32) -> Option<ConvertOptions>
-    ensures { MatchOption result (IsUnbuilt from to) (IsConversion from to frame) }
+fn repair_options(alloc: Global, options: &ArgMatches<'_>) -> Result<RepairOptions, Status>
+    ensures ok { IfOk result (MeanRepair (said_in (rows_of (found_of options.now)))) }
+    ensures err { IfErr result
+        (MeansNone (MeanRepair (said_in (rows_of (found_of options.now))))) }
 {
-    match (from, to) {
-        (Format::Fold, to) => Some(ConvertOptions::Frame { frame, to }),
-        (Format::Cp, Format::Cp) => Some(ConvertOptions::Lines),
-        (Format::Cp, Format::Fold) => None,
+    let from = format_of(options.get_str("from"))?;
+    let to = format_of(options.get_str("to"))?;
+    let frame = frame_of(alloc, options.get_str("frame"))?;
+    let number = number_of(alloc, options.get_str("number"))?;
+    let flat = flat_of(options.get_str("flat"))?;
+    let faces = faces_of(options.get_str("faces"))?;
+    Ok(RepairOptions {
+        from,
+        to,
+        frame,
+        number,
+        flat,
+        faces,
+    })
+}
+
+/// What becomes of segments with the letter F: they are kept where the option isn't given.
+fn flat_of(said: Option<&str>) -> Result<Flat, WordsCause>
+    ensures ok { IfOk result (Says NamesFlat Flat.Keep (option_map (λ text. text.now) said.entry)) }
+    ensures err { IfErr result
+        (NamesNothing NamesFlat Flat.Keep (option_map (λ text. text.now) said.entry)) }
+{
+    match said {
+        None => Ok(Flat::Keep),
+        Some(text) => {
+            if text == "keep" {
+                Ok(Flat::Keep)
+            } else if text == "drop" {
+                Ok(Flat::Drop)
+            } else {
+                Err(WordsCause::Value)
+            }
+        }
+    }
+}
+
+/// Whether faces are looked for, as they are where the option isn't given.
+fn faces_of(said: Option<&str>) -> Result<Faces, WordsCause>
+    ensures ok { IfOk result (Says NamesFaces Faces.Find (option_map (λ text. text.now) said.entry)) }
+    ensures err { IfErr result
+        (NamesNothing NamesFaces Faces.Find (option_map (λ text. text.now) said.entry)) }
+{
+    match said {
+        None => Ok(Faces::Find),
+        Some(text) => {
+            if text == "yes" {
+                Ok(Faces::Find)
+            } else if text == "no" {
+                Ok(Faces::Skip)
+            } else {
+                Err(WordsCause::Value)
+            }
+        }
     }
 }
 
@@ -179,17 +263,6 @@ fn frame_of(alloc: Global, said: Option<&str>) -> Result<u32, Status>
     match said {
         None => Ok(0),
         Some(text) => number_in(alloc, text)?.ok_or(Status::Words(WordsCause::Value)),
-    }
-}
-
-/// The number below 2^32 that the text spells in digits, with no zero in front.
-fn number_in(alloc: Global, text: &str) -> Result<Option<u32>, AllocError>
-    ensures { IfOk result (λ number. number ≡ id_in_text text.now) }
-{
-    match NumberText::read(alloc, text) {
-        Ok(number) => Ok(number.as_str().parse::<u32>().ok()),
-        Err(NumberReadFault::NoNumber) => Ok(None),
-        Err(NumberReadFault::Memory(error)) => Err(error),
     }
 }
 

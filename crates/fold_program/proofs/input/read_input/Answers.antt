@@ -7,6 +7,7 @@ use Rattle.fold_program.specs.Status.{of_cp}
 use Rattle.fold_program.specs.Outcome.{IsReading, Spell}
 use Rattle.fold_program.specs.declared.input.Input.TheVariants as input
 use Rattle.fold_program.specs.declared.words.Format.TheVariants.{Cp}
+use Rattle.fold_program.proofs.Drawn.{sound_lines}
 use Rattle.fold_program.proofs.Reading.{unread_some, refused_cp}
 use Rattle.fold_program.proofs.input.read_input.Goals as goal
 
@@ -48,4 +49,14 @@ returns-in_ok-finish-in-Fold-clause-sound g c =
       proper = c.in_ok-finish-in-Fold.ensures.proper all.0 all.2;
       lists = c.read_trees_are_readable.ensures.lists (length all.0) tree all.3 lengths;
       version = c.read_trees_are_readable.ensures.version (length all.0) tree all.3 lengths;
+      short = (length all.0, all.3, lengths);
     }
+
+pub returns-in_ok-read_cp-in-Cp-clause-sound : goal.returns-in_ok-read_cp-in-Cp-clause-sound
+returns-in_ok-read_cp-in-Cp-clause-sound g c =
+    let all = c.in_ok-bytes-in-Cp.ensures.all in
+    let lines = c.in_ok-read_cp-in-Cp.field-0 in
+    let text : c.as_slice.result.now ≡ all.0 = search rules in
+    let spelled : CpText all.0 lines = subst (λ b. CpText b lines) text c.in_ok-read_cp-in-Cp.ensures.answer in
+    sound_lines all.0 lines all.3 c.in_ok-read_cp-in-Cp.ensures.kinds
+    (c.short_lines.ensures.count all.0 lines spelled) (c.short_lines.ensures.numbers all.0 lines spelled)

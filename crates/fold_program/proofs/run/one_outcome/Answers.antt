@@ -1,5 +1,7 @@
 use Rattle.std.proofs.Common.{length}
 use Rattle.fold_program.proofs.Outcomes.{HaveOneReading, HaveOneFile, some_outcome, one_outcome}
+use Rattle.fold_program.proofs.Drawn.{HaveOneDrawings}
+use Rattle.fold_program.proofs.OneRepair.{HaveOneRepairs}
 use Rattle.fold_program.proofs.run.one_outcome.Goals as goal
 
 pub returns : goal.returns
@@ -17,10 +19,21 @@ returns c =
             proper = c.spelled_trees_are_proper.ensures.proper bytes tree spells;
             lists = c.read_trees_are_readable.ensures.lists (length bytes) tree few lengths;
             version = c.read_trees_are_readable.ensures.version (length bytes) tree few lengths;
+            short = (length bytes, few, lengths);
           };
       some_frame = c.one_effective_frame.ensures.some;
       one_frame = c.one_effective_frame.ensures.one;
       one_cause = c.one_effective_frame.ensures.one_cause;
       apart = c.one_effective_frame.ensures.apart;
     } in
-    record { some = some_outcome readings files; one = one_outcome readings files }
+    let drawings : HaveOneDrawings = record {
+      rational = record { ends = c.one_reading-3.ensures.ends; unread = c.one_reading-3.ensures.unread; not_both = c.one_reading-3.ensures.not_both; some = c.one_reading-3.ensures.some; one_file = c.one_file.ensures.once; some_file = c.one_file.ensures.some };
+      over_two = record { ends = c.one_reading-4.ensures.ends; unread = c.one_reading-4.ensures.unread; not_both = c.one_reading-4.ensures.not_both; some = c.one_reading-4.ensures.some; one_file = c.one_file-2.ensures.once; some_file = c.one_file-2.ensures.some };
+      over_three = record { ends = c.one_reading-5.ensures.ends; unread = c.one_reading-5.ensures.unread; not_both = c.one_reading-5.ensures.not_both; some = c.one_reading-5.ensures.some; one_file = c.one_file-3.ensures.once; some_file = c.one_file-3.ensures.some };
+    } in
+    let repairs : HaveOneRepairs = record {
+      rational = c.one_repair.ensures;
+      over_two = c.one_repair-2.ensures;
+      over_three = c.one_repair-3.ensures;
+    } in
+    record { some = some_outcome readings files drawings repairs; one = one_outcome readings files drawings repairs }

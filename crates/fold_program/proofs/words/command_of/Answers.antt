@@ -2,7 +2,7 @@ use Rattle.std.proofs.Common.{◌≡◌, rules, codes}
 use Rattle.std.proofs.lemmas.Result.{err_from_is_err_and}
 use Rattle.clap.specs.Words.{rows_of, found_of}
 use Rattle.fold_program.specs.Words.{said_in}
-use Rattle.fold_program.proofs.Meaning.{no_convert}
+use Rattle.fold_program.proofs.Meaning.{no_convert, no_repair}
 use Rattle.fold_program.proofs.words.command_of.Goals as goal
 
 pub returns-in_err-convert_options-clause-err : goal.returns-in_err-convert_options-clause-err
@@ -10,3 +10,9 @@ returns-in_err-convert_options-clause-err c =
     let name : c.args.name.now ≡ codes "convert" = search rules in
     let p = err_from_is_err_and c.from_residual-in_err-convert_options.result c.from_residual-in_err-convert_options.ensures.1 in
     rw (p.1, p.2) (no_convert c.args.name.now (said_in (rows_of (found_of c.args.options.now))) _ name c.in_err-convert_options.ensures.err)
+
+pub returns-in_err-repair_options-clause-err : goal.returns-in_err-repair_options-clause-err
+returns-in_err-repair_options-clause-err c =
+    let name : c.args.name.now ≡ codes "repair" = search rules in
+    let p = err_from_is_err_and c.from_residual-in_err-repair_options.result c.from_residual-in_err-repair_options.ensures.1 in
+    rw (p.1, p.2) (no_repair c.args.name.now (said_in (rows_of (found_of c.args.options.now))) _ name c.in_err-repair_options.ensures.err)

@@ -1,10 +1,9 @@
 use Rattle.std.proofs.Common.{◌∙◌, ap, subst, Err}
 use Rattle.std.specs.Str.Parse.{ParsesUnsigned}
-use Rattle.json_tree.specs.Number.{IsNumber}
 use Rattle.fold_keys.specs.Elements.{id_in_text}
 use Rattle.fold_keys.proofs.IdTexts.{id_parsed}
 use Rattle.fold_program.proofs.Meaning.{no_number}
-use Rattle.fold_program.proofs.words.number_in.Goals as goal
+use Rattle.fold_program.proofs.number_option.number_in.Goals as goal
 
 pub returns-in-Ok : goal.returns-in-Ok
 returns-in-Ok c =
