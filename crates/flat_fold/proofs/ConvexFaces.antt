@@ -195,18 +195,18 @@ points_on_to P first [] = refl
 points_on_to P first (u ∷ []) = refl
 points_on_to P first (u ∷ (v ∷ rest)) = ap (λ (xs : List (PointPiece _)). record { from = P u; to = P v } ∷ xs) (points_on_to P first (v ∷ rest))
 
-points_round : {A : Type 0} (P : ℕ → Point A) (cs : List ℕ) → point_pieces_round (map P cs) ≡ map (λ (p : ℕ × ℕ). record { from = P p.0; to = P p.1 }) (pieces_round cs)
+pub points_round : {A : Type 0} (P : ℕ → Point A) (cs : List ℕ) → point_pieces_round (map P cs) ≡ map (λ (p : ℕ × ℕ). record { from = P p.0; to = P p.1 }) (pieces_round cs)
 points_round P [] = refl
 points_round P (u ∷ rest) = points_on_to P u (u ∷ rest)
 
-in_map : {X Y : Type 0} (f : X → Y) (xs : List X) (y : Y) → Contains (map f xs) y → (x : X) × Contains xs x × (f x ≡ y)
+pub in_map : {X Y : Type 0} (f : X → Y) (xs : List X) (y : Y) → Contains (map f xs) y → (x : X) × Contains xs x × (f x ≡ y)
 in_map f [] y i = absurd (in_nil y i)
 in_map f (x ∷ xs) y i = elim (in_cons (f x) (map f xs) y i) [
   | inl e ↦ (x, in_head x xs, e)
   | inr j ↦ (let r = in_map f xs y j in (r.0, in_tail x xs r.0 r.1, r.2))
 ]
 
-map_in : {X Y : Type 0} (f : X → Y) (xs : List X) (x : X) → Contains xs x → Contains (map f xs) (f x)
+pub map_in : {X Y : Type 0} (f : X → Y) (xs : List X) (x : X) → Contains xs x → Contains (map f xs) (f x)
 map_in f [] x i = absurd (in_nil x i)
 map_in {Y} f (y ∷ xs) x i = elim (in_cons y xs x i) [
   | inl e ↦ subst (λ (z : Y). Contains (f y ∷ map f xs) z) (ap f e) (in_head (f y) (map f xs))

@@ -152,7 +152,7 @@ module _ {A : Type 0} (F : OrderedField A) (coords : List (Pair A)) (faces : Lis
   -- ---- faces by their images
 
   module _ (origins : List Origin) (images : List (Pair A)) (a : Are origins images) where
-    one-number : (i j v : ℕ) (p : Pair A) → IsNumberOf F origins images i v p → IsNumberOf F origins images j v p → i ≡ j
+    pub one-number : (i j v : ℕ) (p : Pair A) → IsNumberOf F origins images i v p → IsNumberOf F origins images j v p → i ≡ j
     one-number i j v p h k =
         let same : origin_at origins j ≡ origin_at origins i
         = same_origin origins origins images images a a i j h.within k.within (k.vertex ∙ sym h.vertex) (k.place ∙ sym h.place) in

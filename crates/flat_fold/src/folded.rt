@@ -4,7 +4,7 @@ ghost use Rattle.scaled_plane.specs.Walks.{pieces_round};
 ghost use Rattle.fold_base.specs.declared.letter.Letter.TheVariants.{Cut};
 ghost use Rattle.scaled_plane.specs.Scaling.{IsScaledWith};
 ghost use Rattle.flat_fold.specs.EdgeImages.{AreEdgeImages};
-ghost use Rattle.flat_fold.specs.EdgeSides.{Begins, HasSides};
+ghost use Rattle.flat_fold.specs.EdgeSides.{Begins, HasSides, sides_at};
 ghost use Rattle.flat_fold.specs.Faces.{corners_at, edge_at};
 ghost use Rattle.flat_fold.specs.Folded.{HasEdge, IsFolded};
 ghost use Rattle.flat_fold.specs.Making.{layout};
@@ -192,8 +192,9 @@ impl<N: Exact> Folded<N> {
     }
 
     /// The sides of an edge, one of which at least has a face.
-    fn sides_of(&self, edge: u32) -> Sides
+    pub fn sides_of(&self, edge: u32) -> Sides
         requires { edge < length self.now.sheet.ends.edges }
+        ensures is { result ≡ sides_at self.now.sides edge }
         ensures sides { HasSides self.now.sheet.faces (edge_at self.now.sheet.ends.edges edge) result }
         ensures some { ¬ ((result.left ≡ None) × (result.right ≡ None)) }
     {

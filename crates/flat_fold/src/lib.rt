@@ -25,4 +25,4 @@ pub use laws::{
 pub use levels::{Between, MapFault, path_maps};
 pub use motion::Motion;
 pub use sheet::Sheet;
-pub use sides::{Side, Sides, crossings, edge_sides};
+pub use sides::{Pieces, Side, Sides, crossings, edge_sides, piece_from, pieces_of};

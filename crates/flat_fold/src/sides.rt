@@ -29,7 +29,7 @@ pub struct Sides {
 }
 
 /// The directed pieces of faces, by their two ends.
-type Pieces = BTreeMap<(u32, u32), Side>;
+pub type Pieces = BTreeMap<(u32, u32), Side>;
 
 /// The directed piece that begins at the corner.
 pub fn piece_from(corners: &[u32], k: usize) -> (u32, u32)
@@ -85,7 +85,7 @@ fn put_face(pieces: &mut Pieces, faces: &[Face], f: usize) -> Result<(), AllocEr
 }
 
 /// The directed pieces of all faces.
-fn pieces_of(alloc: Global, faces: &[Face]) -> Result<Pieces, AllocError>
+pub fn pieces_of(alloc: Global, faces: &[Face]) -> Result<Pieces, AllocError>
     requires few_faces { length faces.now < 2 ^ 32 }
     requires few_corners { (f : ℕ) → f < length faces.now → length (corners_at faces.now f) < 2 ^ 32 }
     ensures { IfOk result (HasPieces faces.now (length faces.now) 0) }
