@@ -45,7 +45,7 @@ module _ {A : Type 0} where
   on_to_at first (c ∷ (d ∷ rest)) (suc k) p q read last other =
       on_to_at first (d ∷ rest) k p q read (λ e. last (ap suc e)) (λ h. other (omega (arith, h)))
 
-  round_at : (ps : List (Point A)) (k j : ℕ) (p q : Point A) → slice_get ps k ≡ Some p → slice_get ps j ≡ Some q
+  pub round_at : (ps : List (Point A)) (k j : ℕ) (p q : Point A) → slice_get ps k ≡ Some p → slice_get ps j ≡ Some q
       → (k + 1 ≡ length ps → j ≡ 0) → (k + 1 < length ps → j ≡ k + 1) → slice_get (pieces_round ps) k ≡ Some (record { from = p; to = q })
   round_at [] k j p q read_p read_q last other = absurd (omega (arith, slice_get_within [] k p read_p))
   round_at (c ∷ rest) k j p q read_p read_q last other =

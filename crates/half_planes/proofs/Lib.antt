@@ -9,3 +9,9 @@ pub mod Sizes
 pub mod Entering
 pub mod Borders
 pub mod Stretches
+pub mod Winding
+pub mod InsideSides
+pub mod SheetFaces
+pub mod CornerSides
+pub mod SheetEdges
+pub mod BesideFaces

@@ -5,3 +5,6 @@ pub mod Elimination
 pub mod Intervals
 pub mod Along
 pub mod Faces
+pub mod Sides
+pub mod NumberSets
+pub mod Views

@@ -61,7 +61,7 @@ impl<'a, F: FaceView> Lines for FaceLines<'a, F> {
 }
 
 /// The place after one, round a list.
-fn place_after(place: u32, length: u32) -> u32
+pub fn place_after(place: u32, length: u32) -> u32
     requires { place < length }
     ensures within { result < length }
     ensures last { place + 1 ≡ length → result ≡ 0 }
