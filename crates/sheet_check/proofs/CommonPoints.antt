@@ -8,7 +8,7 @@ use Rattle.std.specs.Prelude.{◌⊎◌, ◌↔◌, IsTrue}
 use Rattle.std.specs.Bool.{OnTrue, OnFalse}
 use Rattle.std.specs.Ordering.{ordering_reverse}
 use Rattle.std.specs.declared.cmp.Ordering.{Ordering}
-use Rattle.std.specs.declared.cmp.Ordering.TheVariants.{Less, Equal, Greater}
+use Rattle.std.specs.declared.cmp.Ordering.TheVariants.{Equal, Greater}
 use Rattle.algebra.specs.OrderedRing.{OrderedRing}
 use Rattle.algebra.proofs.Solvers.{reads, ring_from_multiple, multiple, no_equation}
 use Rattle.plane.specs.declared.point.Point.{Point}
@@ -21,8 +21,7 @@ use Rattle.plane.proofs.OnSegments.{between_is_on, between_turned, from_is_on, m
 use Rattle.plane.proofs.Order.{order_same, order_same_right, order_turned}
 use Rattle.plane.proofs.Shares.{on_same, side_of_on}
 use Rattle.scaled_plane.specs.declared.point.Segment.{Segment}
-use Rattle.arrangement.proofs.OnLines.{Before, Upto, apart, between_on_line, order_of_between, three_orders, turned_order, upto_not_before}
-use Rattle.segment_tests.specs.declared.answer.Meet.{Meet}
+use Rattle.arrangement.proofs.OnLines.{Before, apart, between_on_line, order_of_between, three_orders, turned_order, upto_not_before}
 use Rattle.segment_tests.specs.declared.answer.Meet.TheVariants.{Apart, Touches, Crosses, Along}
 use Rattle.segment_tests.specs.Meets.{IsMeet, IsOneEnd}
 use Rattle.sheet_check.specs.Spans.{AreOneWay, MeetBeside}

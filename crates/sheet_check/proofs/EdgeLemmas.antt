@@ -2,8 +2,8 @@
 use mathlib.Core.Path.{◌≡◌, sym, subst}
 use mathlib.Core.List.{List}
 use mathlib.Core.Bool.{Bool, false}
-use Rattle.std.proofs.Common.{inl, inr, arith, ℕ, ◌<◌, ◌+◌, length}
-use Rattle.std.specs.Prelude.{◌↔◌, IsTrue, Contains, slice_index_or, take}
+use Rattle.std.proofs.Common.{inl, inr, ℕ, ◌<◌, ◌+◌, length}
+use Rattle.std.specs.Prelude.{◌↔◌, IsTrue, slice_index_or, take}
 use Rattle.std.proofs.lemmas.List.{get_or_default}
 use Rattle.scaled_plane.specs.declared.drawing.Edge.{Edge}
 use Rattle.scaled_plane.specs.WellSet.{HasEnd}

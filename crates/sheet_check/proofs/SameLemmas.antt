@@ -3,7 +3,7 @@ use mathlib.Core.Path.{◌≡◌, refl, sym, ap, subst, ◌∙◌}
 use mathlib.Core.List.{List, [], ◌∷◌, map}
 use mathlib.Core.Bool.{Bool, true, false, not, ◌||◌}
 use Rattle.std.proofs.Common.{inl, inr, arith, ℕ, ◌<◌, ◌≤◌, ◌+◌, length}
-use Rattle.std.specs.Prelude.{◌⊎◌, ℤ, All, Contains, Option, Some, None, slice_index_or}
+use Rattle.std.specs.Prelude.{◌⊎◌, ℤ, All, Option, Some, None, slice_index_or}
 use Rattle.std.specs.List.{list_any}
 use Rattle.std.specs.Ordering.{is_eq}
 use Rattle.std.specs.declared.cmp.Ordering.{Ordering}
@@ -18,7 +18,7 @@ use Rattle.plane.specs.declared.point.Point.{Point}
 use Rattle.plane.specs.Points.{IsPoint, IsSamePoint, origin}
 use Rattle.scaled_plane.specs.Drawn.{IsScaledPoint}
 use Rattle.scaled_plane.proofs.DrawnSizes.{scaled_point}
-use Rattle.plane.proofs.Lines.{same_refl, same_through}
+use Rattle.plane.proofs.Lines.{same_through}
 use Rattle.plane.proofs.Members.{in_cons, in_head, in_nil, in_tail}
 use Rattle.plane.proofs.Order.{same_of_equal, equal_of_same}
 use Rattle.scaled_plane.specs.Pieces.{point_at}

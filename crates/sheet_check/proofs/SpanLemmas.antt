@@ -1,8 +1,8 @@
 -- Edges as spans, one by one.
-use mathlib.Core.Path.{◌≡◌, sym, ap, ◌∙◌}
+use mathlib.Core.Path.{◌≡◌, ap, ◌∙◌}
 use mathlib.Core.List.{List, [], ◌∷◌, ◌++◌}
 use Rattle.std.proofs.Common.{arith, ℕ, suc, ◌<◌, ◌+◌, length}
-use Rattle.std.specs.Prelude.{Some, slice_get, slice_index_or}
+use Rattle.std.specs.Prelude.{slice_get, slice_index_or}
 use Rattle.std.proofs.lemmas.List.{get_or_default}
 use Rattle.std.proofs.lemmas.Option.{slice_get-get_or}
 use Rattle.algebra.specs.OrderedRing.{OrderedRing}

@@ -2,11 +2,11 @@
 use mathlib.Core.Path.{◌≡◌, refl, sym, ap, subst, ◌∙◌}
 use mathlib.Core.List.{List, [], ◌∷◌, ◌++◌}
 use mathlib.Core.Bool.{false, true}
-use Rattle.std.proofs.Common.{inl, inr, arith, ℕ, ◌<◌, ◌≤◌, ◌+◌, ◌-◌, length}
-use Rattle.std.specs.Prelude.{◌⊎◌, ◌≢◌, ℤ, ⊤, All, AllPairs, Contains, IsTrue, MatchOption, Option, Some, None, drop, slice_index_or, take}
+use Rattle.std.proofs.Common.{inl, inr, arith, ℕ, ◌<◌, ◌≤◌, ◌+◌, length}
+use Rattle.std.specs.Prelude.{◌⊎◌, ◌≢◌, ℤ, ⊤, All, AllPairs, Contains, MatchOption, Option, Some, None, drop, slice_index_or, take}
 use Rattle.std.specs.Ordering.{is_le}
 use Rattle.std.proofs.lemmas.Bool.{cases_lt}
-use Rattle.std.proofs.lemmas.List.{get_or_default, take-append-drop, take_more, take_rest}
+use Rattle.std.proofs.lemmas.List.{get_or_default, take-append-drop, take_more}
 use Rattle.std.proofs.lemmas.List.Elements.{All-append, All-contains, All-push}
 use Rattle.algebra.specs.OrderedRing.{OrderedRing}
 use Rattle.algebra.specs.Surd.{Surd}
@@ -18,7 +18,7 @@ use Rattle.scaled_plane.specs.Counts.{left_end, right_end, x_order}
 use Rattle.scaled_plane.proofs.DrawnSizes.{scaled_point}
 use Rattle.arrangement.proofs.Looping.{in_rest, read_in, rest_in}
 use Rattle.arrangement.proofs.Sharing.{Upto, between_x, end_point, up_chain}
-use Rattle.arrangement.proofs.Sweeping.{in_front, pairs_first}
+use Rattle.arrangement.proofs.Sweeping.{pairs_first}
 use Rattle.sheet_check.specs.Spans.{AreTested, AreTestedBefore, ComesFrom, IsBefore, IsReachedBy, IsSpan, MeetBeside, MeetTwo, MeetsOne, pair_of}
 
 -- a pair that comes before the one that was found reaches no less

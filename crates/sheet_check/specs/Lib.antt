@@ -2,3 +2,9 @@ pub mod Same
 pub mod Passed
 pub mod Spans
 pub mod Listed
+pub mod Bent
+pub mod Twice
+pub mod Borders
+pub mod Labels
+pub mod Refused
+pub mod Faults

@@ -1,4 +1,3 @@
-use Rattle.scaled_plane.proofs.DrawnSizes.{scaled_point}
 use Rattle.sheet_check.proofs.CommonPoints.{flat_none}
 use Rattle.sheet_check.proofs.meeting.lies_beside_ends.Goals as goal
 

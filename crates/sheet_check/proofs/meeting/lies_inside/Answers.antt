@@ -1,6 +1,3 @@
-use Rattle.std.proofs.Common.{◌≡◌}
-use Rattle.plane.specs.Lines.{side}
-use Rattle.plane.specs.Points.{point_order}
 use Rattle.scaled_plane.proofs.DrawnSizes.{scaled_point}
 use Rattle.sheet_check.proofs.CommonPoints.{inside_answer}
 use Rattle.sheet_check.proofs.meeting.lies_inside.Goals as goal

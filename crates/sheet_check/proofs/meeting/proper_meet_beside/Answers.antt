@@ -1,5 +1,5 @@
 use Rattle.scaled_plane.proofs.DrawnSizes.{scaled_point}
-use Rattle.sheet_check.proofs.CommonPoints.{along_meets, apart_meets, cross_meets, touch_meets}
+use Rattle.sheet_check.proofs.CommonPoints.{along_meets, cross_meets, touch_meets}
 use Rattle.sheet_check.proofs.meeting.proper_meet_beside.Goals as goal
 
 pub returns-in-Touches-clause-meet : goal.returns-in-Touches-clause-meet

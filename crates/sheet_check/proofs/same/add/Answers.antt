@@ -1,6 +1,5 @@
 use Rattle.std.proofs.Common.{◌≡◌, subst, map}
-use Rattle.plane.specs.Points.{IsSamePoint}
-use Rattle.arrangement.specs.Found.{Grows, Has}
+use Rattle.arrangement.specs.Found.{Has}
 use Rattle.arrangement.proofs.Adding.{insert_grows, insert_here, where_false}
 use Rattle.arrangement.proofs.Growing.{has_kept}
 use Rattle.sheet_check.proofs.SameLemmas.{none_has, not_false, not_true, only_new, some_has}
