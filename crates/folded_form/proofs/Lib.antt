@@ -1,0 +1,2 @@
+mod OneForm
+mod Stops
