@@ -1,0 +1,15 @@
+pub mod FaceFacts
+pub mod Listed
+pub mod Balances
+pub mod Embeddings
+pub mod Placed
+pub mod ByPlaces
+pub mod SheetPieces
+pub mod Isometries
+pub mod Numbers
+pub mod ConvexSeen
+pub mod FacesLie
+pub mod SidesOnce
+pub mod EdgesMeet
+pub mod ViewFacts
+pub mod FoldedSheets
