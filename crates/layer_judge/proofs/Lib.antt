@@ -1,0 +1,10 @@
+pub mod Tests
+pub mod Below
+pub mod Strands
+pub mod Firsts
+pub mod Saying
+pub mod Cells
+pub mod Taking
+pub mod Edges
+pub mod OneVerdict
+pub mod Verdicts

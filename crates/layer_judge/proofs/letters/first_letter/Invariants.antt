@@ -1,0 +1,8 @@
+use Rattle.std.proofs.Common.{ℕ, ◌<◌}
+use Rattle.layers.specs.Listing.{LetterListed}
+use Rattle.layers.specs.Orders.{Above}
+use Rattle.layer_judge.specs.Judging.{layer_orders}
+use Rattle.layer_judge.proofs.letters.first_letter.Given as goal
+
+abbrev pub invariant-loop-edge : goal.invariant-loop-edge
+invariant-loop-edge g l = (k : ℕ) → k < l.edge → ¬ LetterListed g.S.Ring.Whole.numbers.ring (g.S.SheetView.sheet l.judged.sheet.now) (Above (g.S.SheetView.sheet l.judged.sheet.now) (layer_orders l.judged.orders.now)) k

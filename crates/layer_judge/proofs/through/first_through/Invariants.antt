@@ -1,0 +1,10 @@
+use Rattle.std.proofs.Common.{ℕ, ◌<◌}
+use Rattle.layers.specs.declared.crossing.Strand.{Strand}
+use Rattle.layers.specs.declared.crossing.Crossing.TheVariants.{Through}
+use Rattle.layers.specs.Listing.{IsListed}
+use Rattle.layers.specs.Orders.{Above}
+use Rattle.layer_judge.specs.Judging.{layer_orders}
+use Rattle.layer_judge.proofs.through.first_through.Given as goal
+
+abbrev pub invariant-loop-edge : goal.invariant-loop-edge
+invariant-loop-edge g l = (k : ℕ) → k < l.edge → (s : Strand) → ¬ IsListed g.S.Ring.Whole.numbers.ring (g.S.SheetView.sheet l.judged.sheet.now) (Above (g.S.SheetView.sheet l.judged.sheet.now) (layer_orders l.judged.orders.now)) (Through k s)
