@@ -1,7 +1,7 @@
 -- a chain of steps goes on or stops, has one outcome at most, and has one
 use Rattle.std.proofs.Common.{◌≡◌, ◌⊎◌, ℕ, List, Result, Ok, Err, inl, inr, refl, sym, ◌∙◌, subst}
 pub use Rattle.fold_program.specs.Steps.{IsOne}
-use Rattle.fold_program.specs.Steps.{Outcome, Then, Answers, Steps, Follows, Ends, due_with}
+use Rattle.fold_program.specs.Steps.{Outcome, Then, Answers, StopsWith, Steps, Follows, Ends, due_with}
 use Rattle.fold_program.specs.declared.status.Status.{Status}
 
 -- a step gives a value, and what follows answers this
@@ -50,6 +50,9 @@ one_then {X} stops gives next step one s s' t t' (inr p) (inr q) =
 
 pub one_answer : (t : List ℕ) → IsOne (Answers t)
 one_answer t a b u v p q = (p.0 ∙ sym q.0, p.1 ∙ sym q.1)
+
+pub one_stop : (stop : Status) → IsOne (StopsWith stop)
+one_stop stop a b u v p q = (p.0 ∙ sym q.0, p.1 ∙ sym q.1)
 
 -- ---- an outcome
 

@@ -17,12 +17,15 @@ use Rattle.fold_program.specs.NumberOption.{NamesChoice}
 use Rattle.fold_program.specs.declared.number_option.NumberChoice.{NumberChoice}
 use Rattle.fold_program.specs.declared.number_option.NumberChoice.TheVariants.{Exact}
 use Rattle.fold_program.proofs.NumberOption.{choice_one, choice_or_not}
-use Rattle.fold_program.specs.Words.{Text, NamesFaces, NamesFlat, NamesFormat, NamesNumber, Says, IsConversion, Mean, MeanShow, MeanConvert, MeanRepair, AreTaken, AreWordsOf, AreRefused, Reads, TakeNothing, faults, found, said_in}
+use Rattle.fold_program.specs.Words.{Text, NamesFaces, NamesFlat, NamesFormat, NamesNumber, Says, IsConversion, Mean, MeanShow, MeanConvert, MeanRepair, MeanFold, MeanJudge, AreTaken, AreWordsOf, AreRefused, Reads, TakeNothing, faults, found, said_in}
 use Rattle.fold_program.specs.declared.status.Status.{Status}
 use Rattle.fold_program.specs.declared.status.Status.TheVariants.{Words}
 use Rattle.fold_program.specs.declared.status.WordsCause.TheVariants.{Refused, Value}
 use Rattle.fold_program.specs.declared.words.Command.{Command}
 use Rattle.fold_program.specs.declared.words.Command.TheVariants.{Show, Convert, Repair}
+use Rattle.fold_program.specs.declared.words.Command.TheVariants as commands
+use Rattle.fold_program.specs.declared.words.FoldOptions.{FoldOptions}
+use Rattle.fold_program.specs.declared.words.JudgeOptions.{JudgeOptions}
 use Rattle.fold_program.specs.declared.words.ConvertOptions.{ConvertOptions}
 use Rattle.fold_program.specs.declared.words.ConvertOptions.TheVariants.{Frame, Lines, Drawing}
 use Rattle.fold_program.specs.declared.words.RepairOptions.{RepairOptions}
@@ -149,7 +152,7 @@ convert_one said o p h k =
     (subst (λ f. IsConversion f k.1 k.2 k.3 p) from k.8))))
 
 -- a text isn't two that differ
-two_texts : (text a b : Text) → bytes_eq a b ≡ false → text ≡ a → text ≡ b → ⊥
+pub two_texts : (text a b : Text) → bytes_eq a b ≡ false → text ≡ a → text ≡ b → ⊥
 two_texts text a b differ p q = false≢true (sym differ ∙ (bytes_eq-Decides a b).1 (sym p ∙ q))
 
 -- one of two texts names a value, and each of them one
@@ -224,67 +227,122 @@ repair_or_not said = elim (says_or_not NamesFormat Fold format_or_not (said (cod
   | inr none ↦ inr (λ o h. none o.from h.from)
 ]
 
+fold_one : (said : Text → Option Text) (o p : FoldOptions) → MeanFold said o → MeanFold said p → o ≡ p
+fold_one said o p h k =
+    let frame = says_one NamesNumber 0 number_one (said (codes "frame")) o.frame p.frame h.frame k.frame in
+    let number = says_one NamesChoice Exact choice_one (said (codes "number")) o.number p.number h.number k.number in
+    (λ i. record { frame = frame i; number = number i })
+
+fold_or_not : (said : Text → Option Text) → ((o : FoldOptions) × MeanFold said o) ⊎ ((o : FoldOptions) → ¬ MeanFold said o)
+fold_or_not said = elim (says_or_not NamesNumber 0 number_or_not (said (codes "frame"))) [
+  | inl frame ↦ elim (says_or_not NamesChoice Exact choice_or_not (said (codes "number"))) [
+    | inl number ↦ inl (record { frame = frame.0; number = number.0 }, record { frame = frame.1; number = number.1 })
+    | inr none ↦ inr (λ o h. none o.number h.number)
+  ]
+  | inr none ↦ inr (λ o h. none o.frame h.frame)
+]
+
+-- orders that are said beside one frame are said beside the frame that is said
+pub orders_beside : (said : Text → Option Text) (frame : ℕ) → Says NamesNumber 0 (said (codes "frame")) frame
+    → (o : JudgeOptions) → MeanJudge said o → Says NamesNumber frame (said (codes "orders")) o.orders
+orders_beside said frame is o h =
+    subst (λ f. Says NamesNumber f (said (codes "orders")) o.orders)
+    (says_one NamesNumber 0 number_one (said (codes "frame")) o.frame frame h.frame is) h.orders
+
+judge_one : (said : Text → Option Text) (o p : JudgeOptions) → MeanJudge said o → MeanJudge said p → o ≡ p
+judge_one said o p h k =
+    let frame = says_one NamesNumber 0 number_one (said (codes "frame")) o.frame p.frame h.frame k.frame in
+    let number = says_one NamesChoice Exact choice_one (said (codes "number")) o.number p.number h.number k.number in
+    let orders = says_one NamesNumber p.frame number_one (said (codes "orders")) o.orders p.orders (orders_beside said p.frame k.frame o h) k.orders in
+    (λ i. record { frame = frame i; number = number i; orders = orders i })
+
+judge_or_not : (said : Text → Option Text) → ((o : JudgeOptions) × MeanJudge said o) ⊎ ((o : JudgeOptions) → ¬ MeanJudge said o)
+judge_or_not said = elim (says_or_not NamesNumber 0 number_or_not (said (codes "frame"))) [
+  | inl frame ↦ elim (says_or_not NamesChoice Exact choice_or_not (said (codes "number"))) [
+    | inl number ↦ elim (says_or_not NamesNumber frame.0 number_or_not (said (codes "orders"))) [
+      | inl orders ↦ inl (
+        record { frame = frame.0; number = number.0; orders = orders.0 },
+        record { frame = frame.1; number = number.1; orders = orders.1 },
+      )
+      | inr none ↦ inr (λ o h. none o.orders (orders_beside said frame.0 frame.1 o h))
+    ]
+    | inr none ↦ inr (λ o h. none o.number h.number)
+  ]
+  | inr none ↦ inr (λ o h. none o.frame h.frame)
+]
+
 -- ---- the command
-
-pub show_or_convert : (name : Text) → name ≡ codes "show" → name ≡ codes "convert" → ⊥
-show_or_convert name = two_texts name (codes "show") (codes "convert") refl
-
-pub show_or_repair : (name : Text) → name ≡ codes "show" → name ≡ codes "repair" → ⊥
-show_or_repair name = two_texts name (codes "show") (codes "repair") refl
-
-pub convert_or_repair : (name : Text) → name ≡ codes "convert" → name ≡ codes "repair" → ⊥
-convert_or_repair name = two_texts name (codes "convert") (codes "repair") refl
 
 mean_one : (name : Text) (said : Text → Option Text) (c d : Command) → Mean name said c → Mean name said d → c ≡ d
 mean_one name said (Show o) (Show p) h k = ap (λ f. Show (record { from = f })) (says_one NamesFormat Fold format_one (said (codes "from")) o.from p.from h.1 k.1)
-mean_one name said (Show o) (Convert p) h k = absurd (show_or_convert name h.0 k.0)
-mean_one name said (Show o) (Repair p) h k = absurd (show_or_repair name h.0 k.0)
-mean_one name said (Convert o) (Show p) h k = absurd (show_or_convert name k.0 h.0)
 mean_one name said (Convert o) (Convert p) h k = ap Convert (convert_one said o p h.1 k.1)
-mean_one name said (Convert o) (Repair p) h k = absurd (convert_or_repair name h.0 k.0)
-mean_one name said (Repair o) (Show p) h k = absurd (show_or_repair name k.0 h.0)
-mean_one name said (Repair o) (Convert p) h k = absurd (convert_or_repair name k.0 h.0)
 mean_one name said (Repair o) (Repair p) h k = ap Repair (repair_one said o p h.1 k.1)
+mean_one name said (commands.Fold o) (commands.Fold p) h k = ap commands.Fold (fold_one said o p h.1 k.1)
+mean_one name said (commands.Judge o) (commands.Judge p) h k = ap commands.Judge (judge_one said o p h.1 k.1)
+mean_one name said c d h k = absurd (two_texts name _ _ refl h.0 k.0)
 
 -- options that are said, or none, of the one command with this name
 module _ (name : Text) (said : Text → Option Text) where
-  no_show : name ≡ codes "show" → ((o : ShowOptions) → ¬ MeanShow said o) → (c : Command) → ¬ Mean name said c
+  pub no_show : name ≡ codes "show" → ((o : ShowOptions) → ¬ MeanShow said o) → (c : Command) → ¬ Mean name said c
   no_show show none (Show o) h = none o h.1
-  no_show show none (Convert o) h = show_or_convert name show h.0
-  no_show show none (Repair o) h = show_or_repair name show h.0
+  no_show show none c h = two_texts name _ _ refl show h.0
 
-  no_convert : name ≡ codes "convert" → ((o : ConvertOptions) → ¬ MeanConvert said o) → (c : Command) → ¬ Mean name said c
-  no_convert convert none (Show o) h = show_or_convert name h.0 convert
+  pub no_convert : name ≡ codes "convert" → ((o : ConvertOptions) → ¬ MeanConvert said o) → (c : Command) → ¬ Mean name said c
   no_convert convert none (Convert o) h = none o h.1
-  no_convert convert none (Repair o) h = convert_or_repair name convert h.0
+  no_convert convert none c h = two_texts name _ _ refl convert h.0
 
-  no_repair : name ≡ codes "repair" → ((o : RepairOptions) → ¬ MeanRepair said o) → (c : Command) → ¬ Mean name said c
-  no_repair repair none (Show o) h = show_or_repair name h.0 repair
-  no_repair repair none (Convert o) h = convert_or_repair name h.0 repair
+  pub no_repair : name ≡ codes "repair" → ((o : RepairOptions) → ¬ MeanRepair said o) → (c : Command) → ¬ Mean name said c
   no_repair repair none (Repair o) h = none o h.1
+  no_repair repair none c h = two_texts name _ _ refl repair h.0
 
-  no_name : ¬ (name ≡ codes "show") → ¬ (name ≡ codes "convert") → ¬ (name ≡ codes "repair") → (c : Command) → ¬ Mean name said c
-  no_name not_show not_convert not_repair (Show o) h = not_show h.0
-  no_name not_show not_convert not_repair (Convert o) h = not_convert h.0
-  no_name not_show not_convert not_repair (Repair o) h = not_repair h.0
+  pub no_fold : name ≡ codes "fold" → ((o : FoldOptions) → ¬ MeanFold said o) → (c : Command) → ¬ Mean name said c
+  no_fold fold none (commands.Fold o) h = none o h.1
+  no_fold fold none c h = two_texts name _ _ refl fold h.0
 
-  mean_or_not : ((c : Command) × Mean name said c) ⊎ ((c : Command) → ¬ Mean name said c)
+  pub no_judge : name ≡ codes "judge" → ((o : JudgeOptions) → ¬ MeanJudge said o) → (c : Command) → ¬ Mean name said c
+  no_judge judge none (commands.Judge o) h = none o h.1
+  no_judge judge none c h = two_texts name _ _ refl judge h.0
+
+  -- the name is that of one of the commands, or of none
+  named : (c : Command) → Mean name said c
+      → (name ≡ codes "show") ⊎ ((name ≡ codes "convert") ⊎ ((name ≡ codes "repair")
+      ⊎ ((name ≡ codes "fold") ⊎ (name ≡ codes "judge"))))
+  named (Show o) h = inl h.0
+  named (Convert o) h = inr (inl h.0)
+  named (Repair o) h = inr (inr (inl h.0))
+  named (commands.Fold o) h = inr (inr (inr (inl h.0)))
+  named (commands.Judge o) h = inr (inr (inr (inr h.0)))
+
+  abbrev MeanOrNot : Type 0
+  MeanOrNot = ((c : Command) × Mean name said c) ⊎ ((c : Command) → ¬ Mean name said c)
+
+  -- a command that has this name is meant, or none is
+  by_options : {O : Type 0} (mean : O → Type 0) → ((o : O) → mean o → (c : Command) × Mean name said c)
+      → (((o : O) → ¬ mean o) → (c : Command) → ¬ Mean name said c)
+      → ((o : O) × mean o) ⊎ ((o : O) → ¬ mean o) → MeanOrNot
+  by_options mean some none_of (inl p) = inl (some p.0 p.1)
+  by_options mean some none_of (inr none) = inr (none_of none)
+
+  mean_or_not : MeanOrNot
   mean_or_not = elim (same_text name (codes "show")) [
-    | inl show ↦ elim (show_or_not said) [
-      | inl p ↦ inl (Show p.0, (show, p.1))
-      | inr none ↦ inr (no_show show none)
-    ]
+    | inl is ↦ by_options (MeanShow said) (λ o h. (Show o, (is, h))) (no_show is) (show_or_not said)
     | inr not_show ↦ elim (same_text name (codes "convert")) [
-      | inl convert ↦ elim (convert_or_not said) [
-        | inl p ↦ inl (Convert p.0, (convert, p.1))
-        | inr none ↦ inr (no_convert convert none)
-      ]
+      | inl is ↦ by_options (MeanConvert said) (λ o h. (Convert o, (is, h))) (no_convert is) (convert_or_not said)
       | inr not_convert ↦ elim (same_text name (codes "repair")) [
-        | inl repair ↦ elim (repair_or_not said) [
-          | inl p ↦ inl (Repair p.0, (repair, p.1))
-          | inr none ↦ inr (no_repair repair none)
+        | inl is ↦ by_options (MeanRepair said) (λ o h. (Repair o, (is, h))) (no_repair is) (repair_or_not said)
+        | inr not_repair ↦ elim (same_text name (codes "fold")) [
+          | inl is ↦ by_options (MeanFold said) (λ o h. (commands.Fold o, (is, h))) (no_fold is) (fold_or_not said)
+          | inr not_fold ↦ elim (same_text name (codes "judge")) [
+            | inl is ↦ by_options (MeanJudge said) (λ o h. (commands.Judge o, (is, h))) (no_judge is) (judge_or_not said)
+            | inr not_judge ↦ inr (λ c h. elim (named c h) [
+              | inl e ↦ not_show e
+              | inr (inl e) ↦ not_convert e
+              | inr (inr (inl e)) ↦ not_repair e
+              | inr (inr (inr (inl e))) ↦ not_fold e
+              | inr (inr (inr (inr e))) ↦ not_judge e
+            ])
+          ]
         ]
-        | inr not_repair ↦ inr (no_name not_show not_convert not_repair)
       ]
     ]
   ]
@@ -294,6 +352,8 @@ reads : (command : Command) → Reads command
 reads (Show options) = tt
 reads (Convert options) = tt
 reads (Repair options) = tt
+reads (commands.Fold options) = tt
+reads (commands.Judge options) = tt
 
 -- ---- the words
 

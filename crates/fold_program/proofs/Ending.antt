@@ -1,15 +1,17 @@
 -- from what is due to what was written
-use Rattle.std.proofs.Common.{◌≡◌, ◌≢◌, ◌⊎◌, ℕ, arith, List, [], Result, Err, None, Some, append-nil, inl, inr, refl, sym, subst}
+use Rattle.std.proofs.Common.{◌≡◌, ◌≢◌, ◌⊎◌, ℕ, arith, List, [], Result, Err, None, Some, append-nil, inl, inr, refl, sym, ◌∙◌, subst}
 use Rattle.std.specs.declared.option.Option.{Option}
 use Rattle.fold_base.specs.Outside.{Gains, GainsPart, Gives}
-use Rattle.fold_program.specs.Status.{IsFailure}
+use Rattle.fold_program.specs.Crossings.{no_line}
+use Rattle.fold_program.specs.Status.{IsAnswer, IsFailure}
 use Rattle.fold_program.specs.Steps.{Ends, Follows, due_with}
-use Rattle.fold_program.specs.Outside.{TakesFrom}
+use Rattle.fold_program.specs.Outside.{PutsInto, PutsText, TakesFrom}
 use Rattle.fold_program.specs.Words.{AreWordsOf, AreRefused}
 use Rattle.fold_program.specs.Outcome.{AreLeft, AreRead, AreUnread, Does, Makes, format_of, IsOutcome, KeepsToOutcome, HasOutcome}
 use Rattle.fold_program.specs.declared.input.Input.{Input}
 use Rattle.fold_program.specs.declared.status.Status.{Status}
-use Rattle.fold_program.specs.declared.status.Status.TheVariants.{Done, Words, Write, Memory}
+use Rattle.fold_program.specs.declared.status.Status.TheVariants.{Done, No, Words, Write, Memory}
+use Rattle.fold_program.specs.declared.status.NoCause.{NoCause}
 use Rattle.fold_program.specs.declared.status.WordsCause.{WordsCause}
 use Rattle.fold_program.specs.declared.status.WordsCause.TheVariants.{Refused, Value}
 use Rattle.fold_program.specs.declared.words.Command.{Command}
@@ -43,26 +45,83 @@ gains_none : (told : Option (List ℕ)) → Gains told told []
 gains_none None = tt
 gains_none (Some bytes) = sym (append-nil bytes)
 
-keeps : (words : List (List ℕ)) (bytes : List ℕ) (told : Option (List ℕ)) (status : Status) → (let r : Result (List ℕ) Status = Err status in Ends (IsOutcome words bytes) r) → status ≢ Write → KeepsToOutcome words bytes told told status
-keeps words bytes told status (inl (inl read)) other = (inl (subst IsFailure (sym read) tt), λ e. absurd (other e))
-keeps words bytes told status (inl (inr memory)) other = (inl (subst IsFailure (sym memory) tt), λ e. absurd (other e))
-keeps words bytes told status (inr h) other = (inr (due_with status, h, gains_none told), λ e. absurd (other e))
+keeps : (words : List (List ℕ)) (bytes : List ℕ) (told : Option (List ℕ)) (status : Status) → (let r : Result (List ℕ) Status = Err status in Ends (IsOutcome words bytes) r) → due_with status ≡ [] → status ≢ Write → KeepsToOutcome words bytes told told status
+keeps words bytes told status (inl (inl read)) none other = (inl (subst IsFailure (sym read) tt), λ e. absurd (other e))
+keeps words bytes told status (inl (inr memory)) none other = (inl (subst IsFailure (sym memory) tt), λ e. absurd (other e))
+keeps words bytes told status (inr h) none other =
+    (inr (due_with status, h, subst (Gains told told) (sym none) (gains_none told)), λ e. absurd (other e))
 
 -- a step stopped, and nothing was written
 pub stopped : (words : List (List ℕ)) (left told : Option (List ℕ)) (status : Status) → ((bytes : List ℕ) × AreLeft left bytes × (let r : Result (List ℕ) Status = Err status in Ends (IsOutcome words bytes) r))
-    → status ≢ Write → HasOutcome words left told told status
-stopped words left told status ends other = (ends.0, ends.1, keeps words ends.0 told status ends.2 other)
+    → due_with status ≡ [] → status ≢ Write → HasOutcome words left told told status
+stopped words left told status ends none other = (ends.0, ends.1, keeps words ends.0 told status ends.2 none other)
 
--- a text was due, and a part of it was written
-pub broken : (words : List (List ℕ)) (left before after : Option (List ℕ)) (text : List ℕ) → ((bytes : List ℕ) × AreLeft left bytes × IsOutcome words bytes Done text)
-    → GainsPart before after text → HasOutcome words left before after Write
-broken words left before after text due part = (due.0, due.1, (inl tt, λ e. (Done, text, tt, due.2, part)))
+-- an answer is no failure to write
+no_write : (due : Status) → IsAnswer due → ¬ (due ≡ Write)
+no_write Done answer e = cc
+no_write (No cause) answer e = cc
+no_write _ answer e = answer
+
+-- the line of a no is due
+line_due : (words : List (List ℕ)) (bytes : List ℕ) (cause : NoCause) → (let r : Result (List ℕ) Status = Err (No cause) in Ends (IsOutcome words bytes) r)
+    → IsOutcome words bytes (No cause) (no_line cause)
+line_due words bytes cause (inl (inl e)) = absurd (cc)
+line_due words bytes cause (inl (inr e)) = absurd (cc)
+line_due words bytes cause (inr h) = h
+
+pub answered : (words : List (List ℕ)) (left : Option (List ℕ)) (status : Status) (cause : NoCause) → status ≡ No cause
+    → ((bytes : List ℕ) × AreLeft left bytes × (let r : Result (List ℕ) Status = Err status in Ends (IsOutcome words bytes) r))
+    → (bytes : List ℕ) × AreLeft left bytes × IsOutcome words bytes (No cause) (no_line cause)
+answered words left status cause is ends =
+    (ends.0, ends.1, line_due words ends.0 cause (subst (λ (s : Status). let r : Result (List ℕ) Status = Err s in Ends (IsOutcome words ends.0) r) is ends.2))
+
+-- a text was due with a status, and it was put, or a part of it
+module _ {T : Type 0} (written : T → Option (List ℕ)) (faults : T → ℕ) (old new : T) (due : Status) (answer : IsAnswer due)
+    (text : List ℕ) (status : Status) (puts : PutsText written faults old new due text status) where
+  pub put_due : (words : List (List ℕ)) (left : Option (List ℕ))
+      → ((bytes : List ℕ) × AreLeft left bytes × IsOutcome words bytes due text)
+      → HasOutcome words left (written old) (written new) status
+  put_due words left ends = elim puts [
+    | inl p ↦ (
+      ends.0,
+      ends.1,
+      (inr (text, subst (λ s. IsOutcome words ends.0 s text) (sym p.0) ends.2, p.1), λ e. absurd (no_write due answer (sym p.0 ∙ e))),
+    )
+    | inr p ↦ (ends.0, ends.1, (inl (subst IsFailure (sym p.0) tt), λ e. (due, text, answer, ends.2, p.1)))
+  ]
+
+  pub puts_due : PutsInto faults old new status
+  puts_due = elim puts [
+    | inl p ↦ record {
+      nothing = λ no other. absurd (no (subst IsAnswer (sym p.0) answer));
+      failed = λ e. absurd (no_write due answer (sym p.0 ∙ e));
+    }
+    | inr p ↦ record { nothing = λ no other. absurd (other p.0); failed = λ e. p.2 }
+  ]
 
 -- ---- the source
 
 gives_none : (told : Option (List ℕ)) → Gives told told []
 gives_none None = tt
 gives_none (Some bytes) = refl
+
+-- what was taken for an answer is as much where writing or memory fails then
+module _ {S : Type 0} (left : S → Option (List ℕ)) (faults : S → ℕ) (words : List (List ℕ)) (old new : S) where
+  takes_write : (due : Status) → IsAnswer due → TakesFrom left faults words old new due → TakesFrom left faults words old new Write
+  takes_write Done answer t = record { taken = t.taken; all = t.all; nothing = λ n. ((t.nothing n).0, λ e. cc); failed = λ e. absurd (cc) }
+  takes_write (No cause) answer t = record { taken = t.taken; all = t.all; nothing = λ n. ((t.nothing n).0, λ e. cc); failed = λ e. absurd (cc) }
+  takes_write _ answer t = absurd answer
+
+  pub takes_memory : (cause : NoCause) → TakesFrom left faults words old new (No cause) → TakesFrom left faults words old new Memory
+  takes_memory cause t = record { taken = t.taken; all = λ h. absurd h; nothing = λ n. ((t.nothing n).0, λ e. cc); failed = λ e. absurd (cc) }
+
+  pub takes_due : {T : Type 0} (written : T → Option (List ℕ)) (puts_faults : T → ℕ) (before after : T) (due : Status) → IsAnswer due
+      → (text : List ℕ) (status : Status) → PutsText written puts_faults before after due text status
+      → TakesFrom left faults words old new due → TakesFrom left faults words old new status
+  takes_due written puts_faults before after due answer text status puts t = elim puts [
+    | inl p ↦ subst (TakesFrom left faults words old new) (sym p.0) t
+    | inr p ↦ subst (TakesFrom left faults words old new) (sym p.0) (takes_write due answer t)
+  ]
 
 -- where the words are refused, nothing is taken
 pub untaken : {S : Type 0} (left : S → Option (List ℕ)) (faults : S → ℕ) (words : List (List ℕ)) (source : S) (status : Status) → (status ≡ Memory) ⊎ AreRefused words status

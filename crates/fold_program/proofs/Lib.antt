@@ -12,3 +12,8 @@ pub mod Repairing
 pub mod Fileable
 pub mod Regions
 pub mod OneRepair
+pub mod OneFold
+pub mod Ordered
+pub mod FoldSteps
+pub mod Headline
+pub mod SameLists

@@ -22,19 +22,16 @@ use Rattle.clap.specs.declared.error.kind.ErrorKind.{ErrorKind}
 use Rattle.clap.specs.declared.parser.matches.ArgMatches.{ArgMatches}
 use Rattle.fold_program.specs.NumberOption.{NamesChoice}
 use Rattle.fold_program.specs.declared.number_option.NumberChoice.TheVariants.{Exact}
-use Rattle.fold_program.specs.Words.{Text, NamesFormat, NamesNothing, NamesNumber, Says, Mean, MeanShow, MeanConvert, MeanRepair, MeansNone, app, as_listed, faults, found, no_entries, option_rule, with_entry}
+use Rattle.fold_program.specs.Words.{Text, NamesFormat, NamesNothing, NamesNumber, Says, Mean, MeanShow, MeanConvert, MeansNone, app, as_listed, faults, found, no_entries, option_rule, with_entry}
 use Rattle.fold_program.specs.Status.{IsOfWords}
 use Rattle.fold_program.specs.declared.words.Entry.{Entry}
 use Rattle.fold_program.specs.declared.words.Command.{Command}
-use Rattle.fold_program.specs.declared.words.Command.TheVariants.{Show, Convert, Repair}
 use Rattle.fold_program.specs.declared.words.Format.{Format}
 use Rattle.fold_program.specs.declared.words.Format.TheVariants.{Fold}
-use Rattle.fold_program.specs.declared.words.RepairOptions.{RepairOptions}
 use Rattle.fold_program.specs.declared.status.WordsCause.{WordsCause}
 use Rattle.fold_program.specs.declared.status.Status.{Status}
 use Rattle.fold_program.specs.declared.status.Status.TheVariants.{Memory, Words}
 use Rattle.fold_program.specs.declared.status.WordsCause.TheVariants.{Refused, Value}
-use Rattle.fold_program.proofs.Decide.{convert_or_repair, show_or_convert, show_or_repair}
 
 -- one entry more
 pub entries_more : (xs : List Entry) (i : ℕ) (d : Entry) → i < length xs
@@ -84,44 +81,21 @@ refused a words error status same has (inr p) =
 
 -- ---- what is said means nothing
 
-pub no_show : (name : Text) (said : Text → Option Text) (status : Status) → name ≡ codes "show"
-    → MeansNone (MeanShow said) status → MeansNone (Mean name said) status
-no_show name said status is (inl memory) = inl memory
-no_show name said status is (inr h) = inr (h.0, none)
-  where
-    none : (c : Command) → ¬ Mean name said c
-    none (Show o) m = h.1 o m.1
-    none (Convert o) m = show_or_convert name is m.0
-    none (Repair o) m = show_or_repair name is m.0
+-- where its options mean nothing, no command has the name
+pub no_meaning : {O : Type 0} (mean : O → Type 0) (name : Text) (said : Text → Option Text) (status : Status)
+    → (((o : O) → ¬ mean o) → (c : Command) → ¬ Mean name said c)
+    → MeansNone mean status → MeansNone (Mean name said) status
+no_meaning mean name said status none_of (inl memory) = inl memory
+no_meaning mean name said status none_of (inr h) = inr (h.0, none_of h.1)
 
-pub no_convert : (name : Text) (said : Text → Option Text) (status : Status) → name ≡ codes "convert"
-    → MeansNone (MeanConvert said) status → MeansNone (Mean name said) status
-no_convert name said status is (inl memory) = inl memory
-no_convert name said status is (inr h) = inr (h.0, none)
-  where
-    none : (c : Command) → ¬ Mean name said c
-    none (Show o) m = show_or_convert name m.0 is
-    none (Convert o) m = h.1 o m.1
-    none (Repair o) m = convert_or_repair name is m.0
-
-pub no_repair : (name : Text) (said : Text → Option Text) (status : Status) → name ≡ codes "repair"
-    → MeansNone (MeanRepair said) status → MeansNone (Mean name said) status
-no_repair name said status is (inl memory) = inl memory
-no_repair name said status is (inr h) = inr (h.0, none)
-  where
-    none : (c : Command) → ¬ Mean name said c
-    none (Show o) m = show_or_repair name m.0 is
-    none (Convert o) m = convert_or_repair name m.0 is
-    none (Repair o) m = h.1 o m.1
-
--- an option of `repair` that names no value leaves the others without a meaning
-pub no_option : {X : Type 0} (names : Text → X → Type 0) (default : X) (said : Text → Option Text)
+-- an option that names no value leaves the others without a meaning
+pub no_option : {O X : Type 0} (mean : O → Type 0) (names : Text → X → Type 0) (default : X) (said : Text → Option Text)
     (name : Text) (text : Option Text) (status : Status)
-    → ((o : RepairOptions) → MeanRepair said o → (x : X) × Says names default (said name) x)
+    → ((o : O) → mean o → (x : X) × Says names default (said name) x)
     → text ≡ said name → MeansNone (Says names default text) status
-    → MeansNone (MeanRepair said) status
-no_option names default said name text status part is (inl memory) = inl memory
-no_option names default said name text status part is (inr h) =
+    → MeansNone mean status
+no_option mean names default said name text status part is (inl memory) = inl memory
+no_option mean names default said name text status part is (inr h) =
     inr (
       h.0,
       λ o m. let p = part o m in

@@ -40,9 +40,14 @@ use Rattle.fold_program.specs.declared.status.TextFault.TheVariants as faults
 use Rattle.fold_program.specs.declared.status.Limit.TheVariants.{TooLong}
 use Rattle.fold_program.specs.declared.words.Command.{Command}
 use Rattle.fold_program.specs.declared.words.Command.TheVariants.{Show, Convert, Repair}
+use Rattle.fold_program.specs.declared.words.Command.TheVariants as commands
 use Rattle.fold_program.specs.declared.words.ConvertOptions.TheVariants.{Frame, Lines, Drawing}
 use Rattle.fold_program.specs.declared.words.Format.{Format}
 use Rattle.fold_program.specs.declared.words.Format.TheVariants.{Fold, Cp}
+use Rattle.fold_program.specs.FoldedFrames.{orders_of}
+use Rattle.fold_program.specs.Judges.{HaveOtherFaces, HaveSameFaces}
+use Rattle.fold_program.specs.declared.aim.Aim.TheVariants.{Form, Verdict}
+use Rattle.fold_program.proofs.OneFold.{HaveOneFolds, one_folded_with}
 use Rattle.fold_program.proofs.OneRepair.{HaveOneRepairs, one_repaired_by, one_repaired_with}
 use Rattle.fold_program.proofs.Drawn.{HaveOneDrawings, one_drawn_by, some_drawn_by}
 use Rattle.fold_program.proofs.Chain.{Comes, Goes, IsOne, IsStep, one_answer, one_then, some_then}
@@ -150,7 +155,7 @@ pub record HaveOneFile : Type 0 where
 no_some : {X : Type 0} (x : X) (o : Option X) → o ≡ Some x → o ≡ None → ⊥
 no_some x o a b = let e : Some x ≡ None = sym a ∙ b in cc
 
-module _ (have : HaveOneFile) (draw : HaveOneDrawings) (repair : HaveOneRepairs) where
+module _ (have : HaveOneFile) (draw : HaveOneDrawings) (repair : HaveOneRepairs) (fold : HaveOneFolds) where
   file_step : (tree : Json) → IsStep (HasMisfit tree) (IsReadFrom tree)
   file_step tree = record {
     one_stop = (keys_step tree).one_stop;
@@ -198,6 +203,15 @@ module _ (have : HaveOneFile) (draw : HaveOneDrawings) (repair : HaveOneRepairs)
           → Goes (HasUnevenLists frame) (HasCounts frame)
       go None none = inr (counts_of frame.entries, (refl, none))
       go (Some fault) some = inl (Shape (Key fault), (fault, some, refl))
+
+  -- ---- faces
+
+  faces_step : (frame ordered : FrameInEffect) → IsStep {X = Unit {0}} (HaveOtherFaces frame ordered) (λ same. HaveSameFaces frame ordered)
+  faces_step frame ordered = record {
+    one_stop = λ s t p q. p.1 ∙ sym q.1;
+    one_value = λ x y p q. refl;
+    apart = λ s x p q. p.0 q;
+  }
 
   -- ---- lines
 
@@ -269,6 +283,21 @@ module _ (have : HaveOneFile) (draw : HaveOneDrawings) (repair : HaveOneRepairs)
       one_then _ _ _ (counts_step frame) (λ counts h.
       one_repaired_with repair (root_of frame.entries) options (given.Frame frame))))
   one_made (Repair options) (input.Cp lines) = one_repaired_by repair options.number options (given.Lines lines)
+  one_made (commands.Fold options) (input.Fold tree) =
+      one_then _ _ _ (file_step tree) (λ file h.
+      one_then _ _ _ (frame_step file options.frame) (λ frame h.
+      one_then _ _ _ (counts_step frame) (λ counts h.
+      one_folded_with fold Form (orders_of frame.entries) (root_of frame.entries) options.number frame)))
+  one_made (commands.Fold options) (input.Cp lines) = λ s s' t t' a b. absurd a
+  one_made (commands.Judge options) (input.Fold tree) =
+      one_then _ _ _ (file_step tree) (λ file h.
+      one_then _ _ _ (frame_step file options.frame) (λ frame h.
+      one_then _ _ _ (frame_step file options.orders) (λ ordered h.
+      one_then _ _ _ (counts_step frame) (λ counts h.
+      one_then _ _ _ (counts_step ordered) (λ counts h.
+      one_then {X = Unit {0}} _ _ _ (faces_step frame ordered) (λ same h.
+      one_folded_with fold Verdict (orders_of ordered.entries) (root_of frame.entries) options.number frame))))))
+  one_made (commands.Judge options) (input.Cp lines) = λ s s' t t' a b. absurd a
 
   some_made : (command : Command) (bytes : List ℕ) (spelled : Input) → IsOnTexts command
       → AreRead (format_of command) bytes spelled → Comes (Makes command spelled)
@@ -286,14 +315,16 @@ module _ (have : HaveOneFile) (draw : HaveOneDrawings) (repair : HaveOneRepairs)
   some_made (Convert (Drawing number)) bytes (input.Cp lines) texts read =
       some_drawn_by draw number lines
   some_made (Repair options) bytes spelled texts read = absurd texts
+  some_made (commands.Fold options) bytes spelled texts read = absurd texts
+  some_made (commands.Judge options) bytes spelled texts read = absurd texts
 
 -- ---- words and bytes
 
-pub one_outcome : HaveOneReading → HaveOneFile → HaveOneDrawings → HaveOneRepairs → (words : List (List ℕ)) (bytes : List ℕ) → HaveAtMostOneOutcome words bytes
-one_outcome one have draw repair words bytes = one_then _ _ _ (words_step words) (λ command h. one_then _ _ _ (reading_step one (format_of command) bytes) (λ spelled k. one_made have draw repair command spelled))
+pub one_outcome : HaveOneReading → HaveOneFile → HaveOneDrawings → HaveOneRepairs → HaveOneFolds → (words : List (List ℕ)) (bytes : List ℕ) → HaveAtMostOneOutcome words bytes
+one_outcome one have draw repair fold words bytes = one_then _ _ _ (words_step words) (λ command h. one_then _ _ _ (reading_step one (format_of command) bytes) (λ spelled k. one_made have draw repair fold command spelled))
 
-pub some_outcome : HaveOneReading → HaveOneFile → HaveOneDrawings → HaveOneRepairs → (words : List (List ℕ)) (bytes : List ℕ) → AskForTexts words → HaveOutcome words bytes
-some_outcome one have draw repair words bytes texts = some_then _ _ _ (words_go words) (λ command h. some_then _ _ _ (reading_goes one (format_of command) bytes) (λ spelled k. some_made have draw repair command bytes spelled (texts command h) k))
+pub some_outcome : HaveOneReading → HaveOneFile → HaveOneDrawings → HaveOneRepairs → HaveOneFolds → (words : List (List ℕ)) (bytes : List ℕ) → AskForTexts words → HaveOutcome words bytes
+some_outcome one have draw repair fold words bytes texts = some_then _ _ _ (words_go words) (λ command h. some_then _ _ _ (reading_goes one (format_of command) bytes) (λ spelled k. some_made have draw repair fold command bytes spelled (texts command h) k))
 
 -- where the words take nothing, the bytes don't matter
 of_any : (words : List (List ℕ)) → TakeNothing words → (bytes other : List ℕ) (s : Status) (t : List ℕ) → IsOutcome words bytes s t → IsOutcome words other s t

@@ -49,13 +49,13 @@ use Rattle.fold_program.specs.declared.words.RepairOptions.{RepairOptions}
 use Rattle.fold_program.proofs.Decide.{one_command, refused_words}
 
 -- what doesn't stop gives a value
-went_on : {X : Type 0} (stops : Status → Type 0) (gives : X → Type 0) (next : X → Outcome) (text : List ℕ)
+pub went_on : {X : Type 0} (stops : Status → Type 0) (gives : X → Type 0) (next : X → Outcome) (text : List ℕ)
     → ¬ stops Done → Then stops gives next Done text → (x : X) × gives x × next x Done text
 went_on stops gives next text never (inl h) = absurd (never h.0)
 went_on stops gives next text never (inr h) = h
 
 -- no fault ends as done
-input_goes : (fault : InputFault) → ¬ (Done ≡ of_input fault)
+pub input_goes : (fault : InputFault) → ¬ (Done ≡ of_input fault)
 input_goes (faults.TooMany what) e = cc
 input_goes (faults.Unread vertex axis cause) e = cc
 input_goes (faults.Missing key) e = cc
@@ -69,7 +69,7 @@ drawing_goes drawing.TooMany e = cc
 drawing_goes (drawing.Parted vertex) e = cc
 drawing_goes (drawing.Memory error) e = cc
 
-frame_goes : (fault : FrameFault) → ¬ (Done ≡ of_frame fault)
+pub frame_goes : (fault : FrameFault) → ¬ (Done ≡ of_frame fault)
 frame_goes (frames.NoFrame frame) e = cc
 frame_goes (frames.ParentRange frame) e = cc
 frame_goes (frames.ParentLoop frame) e = cc
@@ -161,12 +161,12 @@ repaired options to asked (input.Fold tree) text h =
     by_texts options to asked text (given.Frame frame.0) (root_of frame.0.entries) counts.2
 
 -- what isn't read doesn't end as done
-unread_goes : (format : Format) (bytes : List ℕ) → ¬ AreUnread format bytes Done
+pub unread_goes : (format : Format) (bytes : List ℕ) → ¬ AreUnread format bytes Done
 unread_goes format bytes (inl many) = let e = many.1 in cc
 unread_goes Fold bytes (inr fault) = let e = fault.1.2 in cc
 unread_goes Cp bytes (inr fault) = let e = fault.1.2 in cc
 
-refused_goes : (words : List (List ℕ)) → ¬ AreRefused words Done
+pub refused_goes : (words : List (List ℕ)) → ¬ AreRefused words Done
 refused_goes words refused = elim (refused_words words Done refused) [ inl e ↦ cc | inr e ↦ cc ]
 
 of_outcome : (words : List (List ℕ)) (bytes text : List ℕ) (options : RepairOptions) → AreWordsOf words (Repair options)

@@ -2,6 +2,7 @@
 use Rattle.std.specs.Prelude.{refl}
 use Rattle.std.proofs.Common.{inl, inr}
 use Rattle.algebra.specs.LowestTerms.{Parts}
+use Rattle.algebra.specs.NumberField.{NumberField}
 use Rattle.algebra.specs.WholeSurds.{SurdNumbers}
 use Rattle.root_two.specs.Roots as roots
 use Rattle.root_two.specs.declared.number.Root.{Root}
@@ -20,6 +21,9 @@ OverTwo = Root Two two
 abbrev pub parts_over_two : OverTwo → Parts
 parts_over_two = roots.root_parts {radicand = two}
 
+abbrev pub numbers_over_two : NumberField 2 parts_over_two
+numbers_over_two = roots.root_numbers two
+
 abbrev pub whole_over_two : SurdNumbers 2 (roots.whole_pair {R = Two})
 whole_over_two = roots.whole_numbers two
 
@@ -33,6 +37,9 @@ OverThree = Root Three three
 
 abbrev pub parts_over_three : OverThree → Parts
 parts_over_three = roots.root_parts {radicand = three}
+
+abbrev pub numbers_over_three : NumberField 3 parts_over_three
+numbers_over_three = roots.root_numbers three
 
 abbrev pub whole_over_three : SurdNumbers 3 (roots.whole_pair {R = Three})
 whole_over_three = roots.whole_numbers three

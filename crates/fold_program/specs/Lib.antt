@@ -1,4 +1,5 @@
 pub mod Status
+pub mod Crossings
 pub mod Steps
 pub mod NumberOption
 pub mod Words
@@ -6,7 +7,11 @@ pub mod Frames
 pub mod Fields
 pub mod Drawings
 pub mod Repairs
+pub mod FoldedFrames
+pub mod Folds
+pub mod Judges
 pub mod Outcome
 pub mod Regions
+pub mod Headline
 pub mod Notes
 pub mod Outside

@@ -29,6 +29,8 @@ use Rattle.fold_keys.specs.declared.value.Entry.{Entry}
 use Rattle.fold_keys.specs.declared.value.FoldFile.{FoldFile}
 use Rattle.fold_program.specs.Drawings.{AreSoundLines, DrawsBy}
 pub use Rattle.fold_program.specs.Frames.{HasCounts, HasMisfit, HasNoFrame, HasShortTexts, HasUnevenLists, IsFileTree, IsReadFrom}
+use Rattle.fold_program.specs.Folds.{Folds}
+use Rattle.fold_program.specs.Judges.{Judges}
 use Rattle.fold_program.specs.Repairs.{Repairs}
 use Rattle.fold_program.specs.Status.{IsAnswer, IsFailure, of_lines}
 use Rattle.fold_program.specs.Steps.{Outcome, Then, Answers, Never}
@@ -42,6 +44,7 @@ use Rattle.fold_program.specs.declared.status.TextFault.TheVariants as faults
 use Rattle.fold_program.specs.declared.status.Limit.TheVariants.{TooLong}
 use Rattle.fold_program.specs.declared.words.Command.{Command}
 use Rattle.fold_program.specs.declared.words.Command.TheVariants.{Show, Convert, Repair}
+use Rattle.fold_program.specs.declared.words.Command.TheVariants as commands
 use Rattle.fold_program.specs.declared.words.ConvertOptions.{ConvertOptions}
 use Rattle.fold_program.specs.declared.words.ConvertOptions.TheVariants.{Frame, Lines, Drawing}
 use Rattle.fold_program.specs.declared.words.Format.{Format}
@@ -174,12 +177,16 @@ format_of (Convert (Frame frame to)) = Fold
 format_of (Convert Lines) = Cp
 format_of (Convert (Drawing number)) = Cp
 format_of (Repair options) = options.from
+format_of (commands.Fold options) = Fold
+format_of (commands.Judge options) = Fold
 
 -- what a command makes of what it read
 abbrev pub Makes : Command → Input → Outcome
 Makes (Show options) = Shows
 Makes (Convert options) = Converts options
 Makes (Repair options) = Repairs options
+Makes (commands.Fold options) = Folds options
+Makes (commands.Judge options) = Judges options
 
 -- what a command makes of the bytes: they aren't read, or it makes something of what they spell
 abbrev pub Does : Command → List ℕ → Outcome

@@ -1,7 +1,7 @@
 -- what becomes of the source and of the sink
 use Rattle.std.specs.Prelude.{◌≡◌, ◌≢◌, ◌⊎◌, ℕ, ◌+◌, ◌≤◌, List, length}
 use Rattle.std.specs.declared.option.Option.{Option}
-use Rattle.fold_base.specs.Outside.{Gives, IsSpent, Rose}
+use Rattle.fold_base.specs.Outside.{Gains, GainsPart, Gives, IsSpent, Rose}
 use Rattle.fold_base.specs.declared.outside.TheConstants.{MOST_BYTES}
 use Rattle.fold_program.specs.Status.{IsAnswer}
 use Rattle.fold_program.specs.Words.{TakeNothing}
@@ -36,3 +36,11 @@ pub record TakesFrom {S : Type 0} (left : S → Option (List ℕ)) (faults : S �
 pub record PutsInto {T : Type 0} (faults : T → ℕ) (old new : T) (status : Status) : Type 0 where
   pub nothing : ¬ IsAnswer status → status ≢ Write → new ≡ old
   pub failed : status ≡ Write → Rose (faults old) (faults new)
+
+-- a text that is due with a status is put whole, or a proper part of it, where writing fails from
+-- outside
+abbrev pub PutsText : {T : Type 0} (written : T → Option (List ℕ)) (faults : T → ℕ) (old new : T)
+    → Status → List ℕ → Status → Type 0
+PutsText written faults old new due text status =
+    ((status ≡ due) × Gains (written old) (written new) text)
+    ⊎ ((status ≡ Write) × GainsPart (written old) (written new) text × Rose (faults old) (faults new))

@@ -18,22 +18,32 @@ use Rattle.crease_input.specs.declared.fault.InputFault.TheVariants as input
 use Rattle.crease_input.specs.declared.fault.Counted.TheVariants.{Vertices}
 use Rattle.drawing_repair.specs.declared.answer.RepairFault.{RepairFault}
 use Rattle.drawing_repair.specs.declared.answer.RepairFault.TheVariants as repair
+use Rattle.drawing_repair.specs.declared.answer.Stage.{Stage as RepairStage}
+use Rattle.drawing_repair.specs.declared.answer.Stage.TheVariants as repairing
+use Rattle.folded_form.specs.declared.fault.FormFault.{FormFault}
+use Rattle.folded_form.specs.declared.fault.FormFault.TheVariants as form
+use Rattle.layer_judge.specs.declared.answer.JudgeFault.{JudgeFault}
+use Rattle.layer_judge.specs.declared.answer.JudgeFault.TheVariants as judge
 use Rattle.fold_keys.specs.declared.fault.FoldFault.{FoldFault}
 use Rattle.fold_keys.specs.declared.fault.FoldFault.TheVariants as keys
 use Rattle.fold_program.specs.declared.status.Status.{Status}
-use Rattle.fold_program.specs.declared.status.Status.TheVariants.{Done, Text, Shape, Sheet, Number, Words}
+use Rattle.fold_program.specs.declared.status.Status.TheVariants.{Done, No, Text, Shape, Sheet, Number, Words}
 use Rattle.fold_program.specs.declared.status.Status.TheVariants.{Read, Write, Limit, Memory}
 use Rattle.fold_program.specs.declared.status.TextFault.TheVariants.{Json, Cp}
 use Rattle.fold_program.specs.declared.status.ShapeCause.TheVariants.{Key, NoFrame, ParentRange, ParentLoop, NotFlat, Stale}
-use Rattle.fold_program.specs.declared.status.SheetCause.TheVariants.{Check, Missing}
-use Rattle.fold_program.specs.declared.status.SheetFlaw.TheVariants.{Parted}
-use Rattle.fold_program.specs.declared.status.NumberCause.TheVariants.{TooWide, Unread}
+use Rattle.fold_program.specs.declared.status.SheetCause.TheVariants.{Check, Missing, NoOrder, OrderClash}
+use Rattle.fold_program.specs.declared.status.NoCause.TheVariants.{Unclosed}
+use Rattle.fold_program.specs.declared.status.NumberCause.TheVariants.{NumberPast, TooWide, Unread}
+use Rattle.fold_program.specs.declared.status.Stage.{Stage}
+use Rattle.fold_program.specs.declared.status.Stage.TheVariants.{Input, Drawn, Folded}
+use Rattle.scaled_plane.specs.declared.sheet.SheetFlaw.TheVariants.{Parted}
 use Rattle.fold_program.specs.declared.status.WordsCause.TheVariants.{Refused}
 use Rattle.fold_program.specs.declared.status.Limit.TheVariants.{TooLong, TooMany}
 
 -- the exit status of the process
 abbrev pub code_of : Status → ℕ
 code_of Done = 0
+code_of (No cause) = 1
 code_of (Text fault) = 2
 code_of (Shape cause) = 3
 code_of (Sheet cause) = 4
@@ -47,6 +57,7 @@ code_of Memory = 10
 -- a text goes to the sink
 abbrev pub IsAnswer : Status → Type 0
 IsAnswer Done = Unit {0}
+IsAnswer (No cause) = Unit {0}
 IsAnswer _ = ⊥
 
 -- the outside or the memory failed, which no words and bytes decide
@@ -104,12 +115,32 @@ of_input (input.Unread vertex axis cause) = Number (Unread vertex axis cause)
 of_input (input.Stale vertex) = Shape (Stale vertex)
 of_input (input.Memory error) = Memory
 
+-- which coordinates of a repaired drawing are too wide
+abbrev pub of_stage : RepairStage → Stage
+of_stage repairing.Input = Input
+of_stage repairing.Drawn = Drawn
+
 -- the status where segments have no drawing
 abbrev pub of_repair : RepairFault → Status
-of_repair (repair.TooWide vertex stage) = Number (TooWide vertex stage)
+of_repair (repair.TooWide vertex stage) = Number (TooWide vertex (of_stage stage))
 of_repair repair.TooMany = Limit (TooMany Vertices)
 of_repair (repair.Parted vertex) = Sheet (Check (Parted vertex))
 of_repair (repair.Memory error) = Memory
+
+-- the status where a drawing has no folded form
+abbrev pub of_form : FormFault → Status
+of_form (form.TooWide vertex) = Number (TooWide vertex Input)
+of_form (form.Flaw flaw) = Sheet (Check flaw)
+of_form (form.NumberPast face vertex) = Number (NumberPast face vertex)
+of_form (form.Unclosed edge) = No (Unclosed edge)
+of_form (form.FoldedTooWide vertex) = Number (TooWide vertex Folded)
+of_form (form.Memory error) = Memory
+
+-- the status where orders don't rank the faces
+abbrev pub of_judge : JudgeFault → Status
+of_judge (judge.OrderClash first second) = Sheet (OrderClash first second)
+of_judge (judge.NoOrder low high) = Sheet (NoOrder low high)
+of_judge (judge.Memory error) = Memory
 
 -- the status where `clap` doesn't take the words: want of memory is no fault of theirs
 abbrev pub IsOfWords : Error → Status → Type 0

@@ -1,7 +1,8 @@
 -- an outcome is said in steps: each stops with a status, or gives a value to what follows
 use Rattle.std.specs.Prelude.{◌≡◌, ◌⊎◌, ℕ, List, [], Result, Ok, Err}
+use Rattle.fold_program.specs.Crossings.{no_line}
 use Rattle.fold_program.specs.declared.status.Status.{Status}
-use Rattle.fold_program.specs.declared.status.Status.TheVariants.{Done, Words, Read, Write}
+use Rattle.fold_program.specs.declared.status.Status.TheVariants.{Done, No, Words, Read, Write}
 use Rattle.fold_program.specs.declared.status.Status.TheVariants.{Limit, Memory}
 use Rattle.fold_program.specs.declared.status.Limit.TheVariants.{TooLong}
 
@@ -9,9 +10,11 @@ use Rattle.fold_program.specs.declared.status.Limit.TheVariants.{TooLong}
 abbrev pub Outcome : Type 1
 Outcome = Status → List ℕ → Type 0
 
--- the text that is due where a step stops with this status: a refusal has none
+-- the text that is due where a step stops with this status: a line where it is `No`, and none with
+-- a refusal
 abbrev pub due_with : Status → List ℕ
-due_with status = []
+due_with (No cause) = no_line cause
+due_with _ = []
 
 -- a step stops, and the text that its status has is due; or it gives a value, and what follows has
 -- this outcome
@@ -22,6 +25,10 @@ Then {X} stops gives next status text =
 -- the last step: it is done, with this text
 abbrev pub Answers : List ℕ → Outcome
 Answers due status text = (status ≡ Done) × (text ≡ due)
+
+-- the last step: it stops with this status
+abbrev pub StopsWith : Status → Outcome
+StopsWith stop status text = (status ≡ stop) × (text ≡ due_with stop)
 
 -- what never comes has no outcome
 abbrev pub Never : Outcome

@@ -19,8 +19,11 @@ use Rattle.fold_program.specs.declared.number_option.NumberChoice.TheVariants.{E
 use Rattle.fold_program.specs.declared.words.Entry.{Entry}
 use Rattle.fold_program.specs.declared.words.Command.{Command}
 use Rattle.fold_program.specs.declared.words.Command.TheVariants.{Show, Convert, Repair}
+use Rattle.fold_program.specs.declared.words.Command.TheVariants as commands
 use Rattle.fold_program.specs.declared.words.ConvertOptions.{ConvertOptions}
 use Rattle.fold_program.specs.declared.words.ConvertOptions.TheVariants.{Frame, Lines, Drawing}
+use Rattle.fold_program.specs.declared.words.FoldOptions.{FoldOptions}
+use Rattle.fold_program.specs.declared.words.JudgeOptions.{JudgeOptions}
 use Rattle.fold_program.specs.declared.words.RepairOptions.{RepairOptions}
 use Rattle.fold_program.specs.declared.words.ShowOptions.{ShowOptions}
 use Rattle.fold_program.specs.declared.words.Format.{Format}
@@ -52,6 +55,8 @@ table =
       name = codes "repair";
       options = codes "from" ∷ codes "to" ∷ codes "frame" ∷ codes "number" ∷ codes "flat" ∷ codes "faces" ∷ [];
     } ∷
+    record { name = codes "fold"; options = codes "frame" ∷ codes "number" ∷ [] } ∷
+    record { name = codes "judge"; options = codes "frame" ∷ codes "number" ∷ codes "orders" ∷ [] } ∷
     []
 
 -- the text that names a format
@@ -120,11 +125,24 @@ pub record MeanRepair (said : Text → Option Text) (options : RepairOptions) : 
   pub flat : Says NamesFlat Keep (said (codes "flat")) options.flat
   pub faces : Says NamesFaces Find (said (codes "faces")) options.faces
 
+-- what is said of each option means these
+pub record MeanFold (said : Text → Option Text) (options : FoldOptions) : Type 0 where
+  pub frame : Says NamesNumber 0 (said (codes "frame")) options.frame
+  pub number : Says NamesChoice Exact (said (codes "number")) options.number
+
+-- the same, where the orders are those of the frame that is judged if nothing is said of them
+pub record MeanJudge (said : Text → Option Text) (options : JudgeOptions) : Type 0 where
+  pub frame : Says NamesNumber 0 (said (codes "frame")) options.frame
+  pub number : Says NamesChoice Exact (said (codes "number")) options.number
+  pub orders : Says NamesNumber options.frame (said (codes "orders")) options.orders
+
 -- a command's name, and what is said of each option, mean this command
 abbrev pub Mean : Text → (Text → Option Text) → Command → Type 0
 Mean name said (Show options) = (name ≡ codes "show") × MeanShow said options
 Mean name said (Convert options) = (name ≡ codes "convert") × MeanConvert said options
 Mean name said (Repair options) = (name ≡ codes "repair") × MeanRepair said options
+Mean name said (commands.Fold options) = (name ≡ codes "fold") × MeanFold said options
+Mean name said (commands.Judge options) = (name ≡ codes "judge") × MeanJudge said options
 
 -- ---- the words as `clap` takes them
 
@@ -199,12 +217,16 @@ abbrev pub Reads : Command → Type 0
 Reads (Show options) = Unit {0}
 Reads (Convert options) = Unit {0}
 Reads (Repair options) = Unit {0}
+Reads (commands.Fold options) = Unit {0}
+Reads (commands.Judge options) = Unit {0}
 
 -- the command works on texts alone: that it has an outcome is shown
 abbrev pub IsOnTexts : Command → Type 0
 IsOnTexts (Show options) = Unit {0}
 IsOnTexts (Convert options) = Unit {0}
 IsOnTexts (Repair options) = ⊥
+IsOnTexts (commands.Fold options) = ⊥
+IsOnTexts (commands.Judge options) = ⊥
 
 -- nothing is taken from the source: the words are refused, or their command reads no input
 abbrev pub TakeNothing : List Text → Type 0

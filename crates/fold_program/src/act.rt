@@ -3,7 +3,9 @@ ghost use Rattle.fold_program.specs.Steps.{Follows, Steps};
 ghost use Rattle.fold_program.specs.Outcome.{HasFormat, HasMisfit, IsReadFrom, IsSound, IsSoundTree, Makes, Shows, ShowsTree, format_of};
 
 use crate::convert::convert;
+use crate::fold::fold;
 use crate::input::Input;
+use crate::judge::judge;
 use crate::repair::repair;
 use crate::status::Status;
 use crate::words::Command;
@@ -23,6 +25,8 @@ pub fn act(alloc: Global, command: &Command, input: Input) -> Result<Text, Statu
         Command::Show(_) => show(alloc, input),
         Command::Convert(options) => convert(alloc, options, input),
         Command::Repair(options) => repair(alloc, options, input),
+        Command::Fold(options) => fold(alloc, options, input),
+        Command::Judge(options) => judge(alloc, options, input),
     }
 }
 

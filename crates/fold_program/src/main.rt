@@ -8,13 +8,18 @@
 #![tactic(auto)]
 
 mod act;
+mod aim;
 mod arguments;
 mod convert;
 mod denominator;
 mod draw;
 mod drawing;
+mod fold;
+mod folded;
 mod given;
 mod input;
+mod judge;
+mod messages;
 mod notes;
 mod number_option;
 mod repair;
@@ -30,6 +35,8 @@ use std::process::ExitCode;
 
 #[cfg(test)]
 mod drawing_tests;
+#[cfg(test)]
+mod fold_tests;
 #[cfg(test)]
 mod repair_tests;
 #[cfg(test)]

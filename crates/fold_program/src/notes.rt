@@ -12,7 +12,7 @@ pub fn note<E: Sink>(alloc: Global, status: &Status, notes: &mut E)
     ensures { IsNoted E.written E.faults notes.old notes.new status.now }
 {
     match status {
-        Status::Done => {}
+        Status::Done | Status::No(_) => {}
         // No memory is asked for to say that there is none.
         Status::Memory => put_line(notes, "fold_program: memory\n"),
         _ => {

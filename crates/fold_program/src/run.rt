@@ -1,19 +1,23 @@
 // The top call.
-ghost use Rattle.std.specs.Prelude.{◌≡◌, ◌≢◌, ◌⊎◌, List, ℕ, Option, IfErr};
+ghost use Rattle.std.specs.Prelude.{◌≡◌, ◌≢◌, ◌⊎◌, List, ℕ, Option, IfErr, IfOk, string_bytes};
 ghost use Rattle.fold_base.specs.Outside.{Rose};
 ghost use Rattle.fold_program.specs.Status.{status_of};
 ghost use Rattle.fold_program.specs.Steps.{Ends};
 ghost use Rattle.fold_program.specs.Words.{texts, AreWordsOf, AreRefused, ArePlainWordsOf};
 ghost use Rattle.fold_program.specs.Notes.{IsNoted};
 ghost use Rattle.fold_program.specs.Outcome.{IsOutcome, AreInput, AreLeft, IsOutcomeWritten, KeepsToOutcome, AskForTexts, HasOutcome, HaveOutcome, HaveAtMostOneOutcome};
-ghost use Rattle.fold_program.specs.Outside.{PutsInto, TakesFrom};
+ghost use Rattle.fold_program.specs.Crossings.{no_line};
+ghost use Rattle.fold_program.specs.Outside.{PutsInto, PutsText, TakesFrom};
+ghost use Rattle.fold_base.specs.declared.outside.TheConstants.{MOST_BYTES};
+ghost use Rattle.fold_program.specs.Headline.{HaveTrueVerdicts, JudgesFoldable};
 ghost use Rattle.fold_program.specs.Regions.{WritesRegions};
 
 use crate::act::act;
+use crate::folded::{one_fold, true_verdicts};
 use crate::input::read_input;
 use crate::notes::note;
 use crate::repair::one_repair;
-use crate::status::Status;
+use crate::status::{NoCause, Status};
 use crate::words::{Command, read_words};
 use crease_input::one_file;
 use fold_base::{CalmSink, CalmSource, List, Sink, Source, Text, write_all_bytes};
@@ -22,12 +26,12 @@ use fold_keys::{read_trees_are_readable, written_reads_back};
 use json_tree::spelled_trees_are_proper;
 use rational::Rational;
 use root_two::{RootThree, RootTwo};
-use std::alloc::Global;
+use std::alloc::{AllocError, Global};
 
 /// Does what the words say with the bytes of the source.
 ///
 /// The text is built whole before the first byte of it is put. At most one line goes to `notes`,
-/// where the status is another than `Done`.
+/// where the status is no answer.
 pub fn run<S: Source, T: Sink, E: Sink>(
     alloc: Global,
     words: &[String],
@@ -54,6 +58,13 @@ pub fn run<S: Source, T: Sink, E: Sink>(
     ensures regions { WritesRegions (texts words.now)
         (T.written sink.old) (T.written sink.new) result }
 
+    // `judge` says yes to FOLD texts whose chosen frame is a sheet that folds flat, where the orders rank
+    // each two faces that overlap, each stack has one order, nothing crosses a crease or a join at a
+    // seam, and the letters are true. It says so to nothing else, and to each of these where nothing
+    // failed outside and memory wasn't wanting.
+    ensures headline { JudgesFoldable (texts words.now) (S.left source.old)
+        (S.faults source.old) (S.faults source.new) (T.faults sink.old) (T.faults sink.new) result }
+
     // No byte is taken after the first that is past the limit, and none where the words take
     // nothing. Nothing is put where no text is due. Notes get at most the line on the status.
     // Reading and writing fail only from outside.
@@ -61,6 +72,8 @@ pub fn run<S: Source, T: Sink, E: Sink>(
     ensures sink { PutsInto T.faults sink.old sink.new result }
     ensures notes { IsNoted E.written E.faults notes.old notes.new result }
 {
+    one_outcome();
+    yes_is_true();
     let status = perform(alloc, words, source, sink);
     note(alloc, &status, notes);
     status
@@ -103,7 +116,25 @@ pub fn one_outcome()
     one_repair::<Rational>();
     one_repair::<RootTwo>();
     one_repair::<RootThree>();
+    one_fold::<Rational>();
+    one_fold::<RootTwo>();
+    one_fold::<RootThree>();
 }
+
+/// That layers fit is a verdict exactly where they lie, at each point of the plane, as they are
+/// ordered.
+pub fn yes_is_true()
+    ensures { HaveTrueVerdicts }
+{
+    true_verdicts::<Rational>();
+    true_verdicts::<RootTwo>();
+    true_verdicts::<RootThree>();
+}
+
+/// The limit of a text, in bytes.
+pub fn limits()
+    ensures most_bytes { MOST_BYTES ≡ 16777216 }
+{}
 
 /// Words of the plain form mean the command that they say, and are never refused.
 pub fn plain_words()
@@ -134,12 +165,30 @@ fn perform<S: Source, T: Sink>(
     ensures sink { PutsInto T.faults sink.old sink.new result }
 {
     match prepare(alloc, words, source) {
-        Ok(text) => match write_all_bytes(sink, text.bytes()) {
-            Ok(()) => Status::Done,
-            Err(_) => Status::Write,
+        Ok(text) => put(sink, Status::Done, text.bytes()),
+        Err(Status::No(cause)) => match no_line(alloc, cause) {
+            Ok(line) => put(sink, Status::No(cause), line.as_bytes()),
+            Err(_) => Status::Memory,
         },
         Err(status) => status,
     }
+}
+
+/// Puts the text that is due with a status, and answers the status unless writing fails.
+fn put<T: Sink>(sink: &mut T, status: Status, text: &[u8]) -> Status
+    ensures { PutsText T.written T.faults sink.old sink.new status text.now result }
+{
+    match write_all_bytes(sink, text) {
+        Ok(()) => status,
+        Err(_) => Status::Write,
+    }
+}
+
+/// The line that is due where the answer is no.
+fn no_line(alloc: Global, cause: NoCause) -> Result<String, AllocError>
+    ensures { IfOk result (λ line. string_bytes line ≡ no_line cause) }
+{
+    format!(in alloc; "no: {cause}\n")
 }
 
 /// The text that is due, built whole.

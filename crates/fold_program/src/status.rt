@@ -1,17 +1,23 @@
 // What the program ends with.
 ghost use Rattle.std.specs.Prelude.{◌≡◌};
 ghost use Rattle.fold_program.specs.Notes.{axis_name, counted_name, stage_name, unread_words};
+ghost use Rattle.fold_program.specs.Status.{of_stage};
 
+use crate::messages::{CrossingWords, FlawWords};
 use clap::error::ErrorKind;
 use cp_lines::{CpFault, CpReadFault};
 use crease_input::{Axis, Counted, InputFault};
-use drawing_repair::{RepairFault, Stage};
+use drawing_repair::RepairFault;
 use fold_base::{ReadFault, Text};
 use fold_frames::FrameFault;
 use fold_keys::{FoldFault, ShapeFault};
+use folded_form::FormFault;
 use frame_lines::LinesFault;
 use json_read::{JsonFault, JsonReadFault};
+use layer_judge::JudgeFault;
+use layers::Crossing;
 use number_rules::Unread;
+use scaled_plane::SheetFlaw;
 use std::alloc::AllocError;
 use std::fmt;
 
@@ -19,6 +25,9 @@ use std::fmt;
 pub enum Status {
     /// The text that the words ask for was written whole.
     Done,
+    /// The sheet doesn't fold flat, or its layers can't lie as they are ordered, and the line that says
+    /// so was written whole.
+    No(NoCause),
     Text(TextFault),
     Shape(ShapeCause),
     Sheet(SheetCause),
@@ -31,6 +40,16 @@ pub enum Status {
     Limit(Limit),
     /// Memory was refused. Nothing was written.
     Memory,
+}
+
+/// Why the answer is no.
+#[derive(Clone, Copy, Debug, PartialEq, Eq)]
+pub enum NoCause {
+    /// Faces that are walked round don't come back to where they began. This is the least edge whose
+    /// two faces disagree.
+    Unclosed { edge: u32 },
+    /// Layers cross, and this is the first crossing.
+    Crossing(Crossing),
 }
 
 /// Where the input stops being of its format.
@@ -51,6 +70,8 @@ pub enum ShapeCause {
     ParentRange { frame: u32 },
     /// Of the frames that are met when parents are followed, this is the first that is met again.
     ParentLoop { frame: u32 },
+    /// The frame with the orders of faces has other faces than the frame that is chosen.
+    OrdersDiffer,
     /// The third coordinate of this vertex isn't 0.
     NotFlat { vertex: u32 },
     /// A coordinate of this vertex isn't its exact number, rounded to nine decimals.
@@ -63,13 +84,10 @@ pub enum SheetCause {
     /// The frame lacks this key.
     Missing { key: Text },
     Check(SheetFlaw),
-}
-
-/// What keeps a drawing from being a sheet.
-#[derive(Clone, Copy, Debug, PartialEq, Eq)]
-pub enum SheetFlaw {
-    /// No edges join this vertex to vertex 0.
-    Parted { vertex: u32 },
+    /// The orders at these places say opposite things of two faces.
+    OrderClash { first: u32, second: u32 },
+    /// These two faces overlap, and no order says which is above.
+    NoOrder { low: u32, high: u32 },
 }
 
 /// Why numbers can't be computed with.
@@ -82,12 +100,27 @@ pub enum NumberCause {
         axis: Axis,
         cause: Unread,
     },
-    /// The coordinates of this vertex are too wide: of those that were given, or of the vertices of the
-    /// drawing.
+    /// The coordinates of this vertex are too wide.
     TooWide {
         vertex: u32,
         stage: Stage,
     },
+    /// The map of this face leaves the range of numbers, or else the place that it gives the vertex.
+    NumberPast {
+        face: u32,
+        vertex: Option<u32>,
+    },
+}
+
+/// Which coordinates are too wide.
+#[derive(Clone, Copy, Debug, PartialEq, Eq)]
+pub enum Stage {
+    /// Those that were given.
+    Input,
+    /// Those of the vertices of a drawing.
+    Drawn,
+    /// Those of the folded vertices.
+    Folded,
 }
 
 #[derive(Clone, Copy, Debug, PartialEq, Eq)]
@@ -115,6 +148,7 @@ impl Status {
     {
         match self {
             Status::Done => 0,
+            Status::No(_) => 1,
             Status::Text(_) => 2,
             Status::Shape(_) => 3,
             Status::Sheet(_) => 4,
@@ -252,9 +286,10 @@ impl From<RepairFault> for Status {
 
     fn from(fault: RepairFault) -> Status {
         match fault {
-            RepairFault::TooWide { vertex, stage } => {
-                Status::Number(NumberCause::TooWide { vertex, stage })
-            }
+            RepairFault::TooWide { vertex, stage } => Status::Number(NumberCause::TooWide {
+                vertex,
+                stage: of_stage(stage),
+            }),
             RepairFault::TooMany => Status::Limit(Limit::TooMany {
                 what: Counted::Vertices,
             }),
@@ -262,6 +297,56 @@ impl From<RepairFault> for Status {
                 Status::Sheet(SheetCause::Check(SheetFlaw::Parted { vertex }))
             }
             RepairFault::Memory(_) => Status::Memory,
+        }
+    }
+}
+
+fn of_stage(stage: drawing_repair::Stage) -> Stage
+    ensures { result ≡ of_stage stage }
+{
+    match stage {
+        drawing_repair::Stage::Input => Stage::Input,
+        drawing_repair::Stage::Drawn => Stage::Drawn,
+    }
+}
+
+impl From<FormFault> for Status {
+    ghost use Rattle.fold_program.specs.Status.{of_form};
+
+    ghost from_gives = { λ fault status. status ≡ of_form fault };
+
+    fn from(fault: FormFault) -> Status {
+        match fault {
+            FormFault::TooWide { vertex } => Status::Number(NumberCause::TooWide {
+                vertex,
+                stage: Stage::Input,
+            }),
+            FormFault::Flaw(flaw) => Status::Sheet(SheetCause::Check(flaw)),
+            FormFault::NumberPast { face, vertex } => {
+                Status::Number(NumberCause::NumberPast { face, vertex })
+            }
+            FormFault::Unclosed { edge } => Status::No(NoCause::Unclosed { edge }),
+            FormFault::FoldedTooWide { vertex } => Status::Number(NumberCause::TooWide {
+                vertex,
+                stage: Stage::Folded,
+            }),
+            FormFault::Memory(_) => Status::Memory,
+        }
+    }
+}
+
+impl From<JudgeFault> for Status {
+    ghost use Rattle.fold_program.specs.Status.{of_judge};
+
+    ghost from_gives = { λ fault status. status ≡ of_judge fault };
+
+    fn from(fault: JudgeFault) -> Status {
+        match fault {
+            JudgeFault::OrderClash { first, second } => {
+                Status::Sheet(SheetCause::OrderClash { first, second })
+            }
+            JudgeFault::NoOrder { low, high } => Status::Sheet(SheetCause::NoOrder { low, high }),
+            JudgeFault::Memory(_) => Status::Memory,
         }
     }
 }
@@ -299,6 +384,7 @@ impl fmt::Display for Status {
     fn fmt<W: fmt::Write>(&self, f: &mut fmt::Formatter<W>) -> fmt::Result {
         match self {
             Status::Done => f.write_str("done"),
+            Status::No(cause) => write!(f, "{cause}"),
             Status::Text(fault) => write!(f, "{fault}"),
             Status::Shape(cause) => write!(f, "{cause}"),
             Status::Sheet(cause) => write!(f, "{cause}"),
@@ -311,6 +397,27 @@ impl fmt::Display for Status {
         }
     }
 }
+
+impl fmt::Display for NoCause {
+    ghost use Rattle.std.specs.Prelude.{Some};
+    ghost use Rattle.fold_program.specs.Crossings.{no_message};
+
+    ghost output = { λ cause. Some (no_message cause) };
+
+    fn fmt<W: fmt::Write>(&self, f: &mut fmt::Formatter<W>) -> fmt::Result {
+        match self {
+            NoCause::Unclosed { edge } => write!(f, "unclosed {edge}"),
+            NoCause::Crossing(crossing) => {
+                let words = CrossingWords {
+                    crossing: *crossing,
+                };
+                write!(f, "{words}")
+            }
+        }
+    }
+}
+
+impl std::error::Error for NoCause {}
 
 impl fmt::Display for TextFault {
     ghost use Rattle.std.specs.Prelude.{Some};
@@ -340,6 +447,7 @@ impl fmt::Display for ShapeCause {
             ShapeCause::NoFrame { frame } => write!(f, "no frame {frame}"),
             ShapeCause::ParentRange { frame } => write!(f, "parent range {frame}"),
             ShapeCause::ParentLoop { frame } => write!(f, "parent loop {frame}"),
+            ShapeCause::OrdersDiffer => f.write_str("orders differ"),
             ShapeCause::NotFlat { vertex } => write!(f, "not flat {vertex}"),
             ShapeCause::Stale { vertex } => write!(f, "stale {vertex}"),
         }
@@ -357,27 +465,17 @@ impl fmt::Display for SheetCause {
     fn fmt<W: fmt::Write>(&self, f: &mut fmt::Formatter<W>) -> fmt::Result {
         match self {
             SheetCause::Missing { key } => write!(f, "missing {key}"),
-            SheetCause::Check(flaw) => write!(f, "{flaw}"),
+            SheetCause::Check(flaw) => {
+                let words = FlawWords { flaw: *flaw };
+                write!(f, "{words}")
+            }
+            SheetCause::OrderClash { first, second } => write!(f, "order clash {first} {second}"),
+            SheetCause::NoOrder { low, high } => write!(f, "no order {low} {high}"),
         }
     }
 }
 
 impl std::error::Error for SheetCause {}
-
-impl fmt::Display for SheetFlaw {
-    ghost use Rattle.std.specs.Prelude.{Some};
-    ghost use Rattle.fold_program.specs.Notes.{flaw_message};
-
-    ghost output = { λ flaw. Some (flaw_message flaw) };
-
-    fn fmt<W: fmt::Write>(&self, f: &mut fmt::Formatter<W>) -> fmt::Result {
-        match self {
-            SheetFlaw::Parted { vertex } => write!(f, "parted {vertex}"),
-        }
-    }
-}
-
-impl std::error::Error for SheetFlaw {}
 
 impl fmt::Display for NumberCause {
     ghost use Rattle.std.specs.Prelude.{Some};
@@ -400,6 +498,10 @@ impl fmt::Display for NumberCause {
                 let stage = stage_name(*stage);
                 write!(f, "too wide {vertex} {stage}")
             }
+            NumberCause::NumberPast { face, vertex } => match vertex {
+                None => write!(f, "number past face {face}"),
+                Some(vertex) => write!(f, "number past face {face} vertex {vertex}"),
+            },
         }
     }
 }
@@ -421,6 +523,7 @@ fn stage_name(stage: Stage) -> &'static str
     match stage {
         Stage::Input => "input",
         Stage::Drawn => "drawn",
+        Stage::Folded => "folded",
     }
 }
 

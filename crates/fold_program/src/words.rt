@@ -2,7 +2,7 @@
 ghost use Rattle.std.specs.Prelude.{◌≡◌, ◌≢◌, ◌⊎◌, [], IfOk, IfErr, false, option_map};
 ghost use Rattle.clap.specs.Words.{app_of, found_of, rows_of, shape_of, subcommand_rows_of};
 ghost use Rattle.clap.specs.declared.builder.command.Command.TheViews.{out-Command};
-ghost use Rattle.fold_program.specs.Words.{texts, app, faults, found, as_listed, subcommand_shape, said_in, IsConversion, Mean, MeanShow, MeanConvert, MeanRepair, MeansNone, NamesFaces, NamesFlat, NamesFormat, NamesNothing, NamesNumber, Says, AreWordsOf, AreRefused};
+ghost use Rattle.fold_program.specs.Words.{texts, app, faults, found, as_listed, subcommand_shape, said_in, IsConversion, Mean, MeanShow, MeanConvert, MeanRepair, MeanFold, MeanJudge, MeansNone, NamesFaces, NamesFlat, NamesFormat, NamesNothing, NamesNumber, Says, AreWordsOf, AreRefused};
 
 use crate::number_option::{NumberChoice, number_in, number_of};
 use crate::status::{Status, WordsCause};
@@ -21,6 +21,10 @@ pub enum Command {
     /// Prints the segments of CP text, or the edges of a frame, as a drawing: its vertices, the pieces
     /// between them, and its faces.
     Repair(RepairOptions),
+    /// Prints the folded form of a frame that is a sheet.
+    Fold(FoldOptions),
+    /// Prints whether a frame that is a sheet folds flat with its faces ordered as they are.
+    Judge(JudgeOptions),
 }
 
 #[derive(Clone, Copy, Debug, PartialEq, Eq)]
@@ -50,6 +54,20 @@ pub struct RepairOptions {
 }
 
 #[derive(Clone, Copy, Debug, PartialEq, Eq)]
+pub struct FoldOptions {
+    pub frame: u32,
+    pub number: NumberChoice,
+}
+
+#[derive(Clone, Copy, Debug, PartialEq, Eq)]
+pub struct JudgeOptions {
+    pub frame: u32,
+    pub number: NumberChoice,
+    /// The frame whose orders of faces are taken.
+    pub orders: u32,
+}
+
+#[derive(Clone, Copy, Debug, PartialEq, Eq)]
 pub enum Format {
     /// JSON.
     Fold,
@@ -70,6 +88,8 @@ impl Command {
             Command::Convert(ConvertOptions::Lines) => Format::Cp,
             Command::Convert(ConvertOptions::Drawing { .. }) => Format::Cp,
             Command::Repair(options) => options.from,
+            Command::Fold(_) => Format::Fold,
+            Command::Judge(_) => Format::Fold,
         }
     }
 }
@@ -80,7 +100,7 @@ pub struct Entry {
     options: &'static [&'static str],
 }
 
-static TABLE: [Entry; 3] = [
+static TABLE: [Entry; 5] = [
     Entry {
         name: "show",
         options: &["from"],
@@ -92,6 +112,14 @@ static TABLE: [Entry; 3] = [
     Entry {
         name: "repair",
         options: &["from", "to", "frame", "number", "flat", "faces"],
+    },
+    Entry {
+        name: "fold",
+        options: &["frame", "number"],
+    },
+    Entry {
+        name: "judge",
+        options: &["frame", "number", "orders"],
     },
 ];
 
@@ -154,6 +182,10 @@ fn command_of(alloc: Global, name: &str, options: &ArgMatches<'_>) -> Result<Com
         Ok(Command::Convert(convert_options(alloc, options)?))
     } else if name == "repair" {
         Ok(Command::Repair(repair_options(alloc, options)?))
+    } else if name == "fold" {
+        Ok(Command::Fold(fold_options(alloc, options)?))
+    } else if name == "judge" {
+        Ok(Command::Judge(judge_options(alloc, options)?))
     } else {
         // `clap` finds no command but those of the table.
         Err(Status::Words(WordsCause::Value))
@@ -176,7 +208,7 @@ fn convert_options(alloc: Global, options: &ArgMatches<'_>) -> Result<ConvertOpt
 {
     let from = format_of(options.get_str("from"))?;
     let to = format_of(options.get_str("to"))?;
-    let frame = frame_of(alloc, options.get_str("frame"))?;
+    let frame = frame_of(alloc, options.get_str("frame"), 0)?;
     let number = number_of(alloc, options.get_str("number"))?;
     Ok(conversion(from, to, frame, number))
 }
@@ -200,7 +232,7 @@ fn repair_options(alloc: Global, options: &ArgMatches<'_>) -> Result<RepairOptio
 {
     let from = format_of(options.get_str("from"))?;
     let to = format_of(options.get_str("to"))?;
-    let frame = frame_of(alloc, options.get_str("frame"))?;
+    let frame = frame_of(alloc, options.get_str("frame"), 0)?;
     let number = number_of(alloc, options.get_str("number"))?;
     let flat = flat_of(options.get_str("flat"))?;
     let faces = faces_of(options.get_str("faces"))?;
@@ -211,6 +243,32 @@ fn repair_options(alloc: Global, options: &ArgMatches<'_>) -> Result<RepairOptio
         number,
         flat,
         faces,
+    })
+}
+
+fn fold_options(alloc: Global, options: &ArgMatches<'_>) -> Result<FoldOptions, Status>
+    ensures ok { IfOk result (MeanFold (said_in (rows_of (found_of options.now)))) }
+    ensures err { IfErr result
+        (MeansNone (MeanFold (said_in (rows_of (found_of options.now))))) }
+{
+    let frame = frame_of(alloc, options.get_str("frame"), 0)?;
+    let number = number_of(alloc, options.get_str("number"))?;
+    Ok(FoldOptions { frame, number })
+}
+
+/// The orders are those of the frame that is judged, unless another is named.
+fn judge_options(alloc: Global, options: &ArgMatches<'_>) -> Result<JudgeOptions, Status>
+    ensures ok { IfOk result (MeanJudge (said_in (rows_of (found_of options.now)))) }
+    ensures err { IfErr result
+        (MeansNone (MeanJudge (said_in (rows_of (found_of options.now))))) }
+{
+    let frame = frame_of(alloc, options.get_str("frame"), 0)?;
+    let number = number_of(alloc, options.get_str("number"))?;
+    let orders = frame_of(alloc, options.get_str("orders"), frame)?;
+    Ok(JudgeOptions {
+        frame,
+        number,
+        orders,
     })
 }
 
@@ -254,14 +312,14 @@ fn faces_of(said: Option<&str>) -> Result<Faces, WordsCause>
     }
 }
 
-/// The number of a frame that an option says, and 0 where it isn't given.
-fn frame_of(alloc: Global, said: Option<&str>) -> Result<u32, Status>
-    ensures ok { IfOk result (Says NamesNumber 0 (option_map (λ text. text.now) said.entry)) }
+/// The number of a frame that an option says, and the default where it isn't given.
+fn frame_of(alloc: Global, said: Option<&str>, default: u32) -> Result<u32, Status>
+    ensures ok { IfOk result (Says NamesNumber default (option_map (λ text. text.now) said.entry)) }
     ensures err { IfErr result
-        (MeansNone (Says NamesNumber 0 (option_map (λ text. text.now) said.entry))) }
+        (MeansNone (Says NamesNumber default (option_map (λ text. text.now) said.entry))) }
 {
     match said {
-        None => Ok(0),
+        None => Ok(default),
         Some(text) => number_in(alloc, text)?.ok_or(Status::Words(WordsCause::Value)),
     }
 }

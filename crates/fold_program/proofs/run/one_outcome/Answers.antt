@@ -1,6 +1,7 @@
 use Rattle.std.proofs.Common.{length}
 use Rattle.fold_program.proofs.Outcomes.{HaveOneReading, HaveOneFile, some_outcome, one_outcome}
 use Rattle.fold_program.proofs.Drawn.{HaveOneDrawings}
+use Rattle.fold_program.proofs.OneFold.{HaveOneFolds}
 use Rattle.fold_program.proofs.OneRepair.{HaveOneRepairs}
 use Rattle.fold_program.proofs.run.one_outcome.Goals as goal
 
@@ -36,4 +37,9 @@ returns c =
       over_two = c.one_repair-2.ensures;
       over_three = c.one_repair-3.ensures;
     } in
-    record { some = some_outcome readings files drawings repairs; one = one_outcome readings files drawings repairs }
+    let folds : HaveOneFolds = record {
+      rational = c.one_fold.ensures;
+      over_two = c.one_fold-2.ensures;
+      over_three = c.one_fold-3.ensures;
+    } in
+    record { some = some_outcome readings files drawings repairs folds; one = one_outcome readings files drawings repairs folds }
