@@ -8,3 +8,4 @@ pub mod SameWalks
 pub mod OneScaling
 pub mod OneDrawing
 pub mod Found
+pub mod Narrow

@@ -51,7 +51,7 @@ use Rattle.drawing_repair.proofs.SameWalks.{face_walk_alike}
 
 -- ---- the same points
 
-all_at : {X : Type 0} (P : X → Type 0) (xs : List X) (d : X) → ((x : X) → Contains xs x → P x) → P d → (v : ℕ) → P (slice_index_or xs v d)
+pub all_at : {X : Type 0} (P : X → Type 0) (xs : List X) (d : X) → ((x : X) → Contains xs x → P x) → P d → (v : ℕ) → P (slice_index_or xs v d)
 all_at P [] d all h v = h
 all_at P (x ∷ xs) d all h zero = all x (in_head x xs)
 all_at P (x ∷ xs) d all h (suc v) = all_at P xs d (λ y c. all y (in_tail x xs y c)) h v

@@ -2,3 +2,4 @@ pub mod Kept
 pub mod Faults
 pub mod Repaired
 pub mod Cutting
+pub mod Narrow

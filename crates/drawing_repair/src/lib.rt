@@ -10,6 +10,6 @@ mod options;
 mod repair;
 
 pub use answer::{RepairFault, Repaired, Stage};
-pub use laws::one_drawing;
+pub use laws::{one_drawing, vertices_can_be_written};
 pub use options::{Faces, Flat};
 pub use repair::repair_ends;

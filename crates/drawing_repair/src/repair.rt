@@ -4,6 +4,7 @@ ghost use Rattle.scaled_plane.specs.declared.drawing.Face.{Face as AnyFace};
 ghost use Rattle.scaled_plane.specs.Walks.{IsFirstParted};
 ghost use Rattle.scaled_plane.specs.WellSet.{IsWellSet};
 ghost use Rattle.drawing_repair.specs.Kept.{AreInRange};
+ghost use Rattle.drawing_repair.specs.Narrow.{AreNarrow};
 ghost use Rattle.drawing_repair.specs.Repaired.{AreFacesOf, AreFoundWithin, HasBoundedRegions, IsMemory, IsRefusal, IsRepaired};
 ghost use Rattle.drawing_repair.specs.declared.answer.Stage.TheVariants.{Drawn};
 ghost use Rattle.drawing_repair.specs.declared.options.Faces.TheVariants.{Find};
@@ -11,6 +12,7 @@ ghost use Rattle.drawing_repair.specs.declared.options.Faces.TheVariants.{Find};
 use crate::answer::{RepairFault, Repaired};
 use crate::coordinates::exact_points;
 use crate::cutting::cut_ends;
+use crate::laws::vertices_can_be_written;
 use crate::options::{Faces, Flat};
 use exact_number::{Exact, Whole};
 use face_walks::walks;
@@ -60,7 +62,9 @@ pub fn repair_ends<N: Exact>(
     ensures regions { IfOk result (HasBoundedRegions N.parts N.Ring.numbers flat ends.now) }
     ensures within { IfOk result (λ r. AreFoundWithin (length r.ends.coords) r.faces) }
     ensures rational { N.ROOT ≡ 1 → IfErr result (λ e. (v : ℕ) → ¬ (e ≡ RepairFault.TooWide v Drawn)) }
+    ensures narrow { AreNarrow N.parts ends.now.coords → IfErr result (λ e. (v : ℕ) → ¬ (e ≡ RepairFault.TooWide v Drawn)) }
 {
+    vertices_can_be_written::<N>();
     let (scaled, drawing) = cut_ends(alloc, ends, flat)?;
     let coords = exact_points(alloc, drawing.vertices.as_slice(), scaled.common)?;
     let faces = faces_of(alloc, &drawing, faces)?;

@@ -1,13 +1,15 @@
 use Rattle.std.proofs.Common.{◌≡◌, ◌∙◌, ℕ, ℤ, List, ap, inl, inr, length, of_z, rules, subst, sym, to_z}
 use Rattle.std.specs.Int.{w128}
 use Rattle.std.proofs.lemmas.Int.{to_z-of_z}
-use Rattle.std.proofs.lemmas.Result.{err_from_is_err_and}
+use Rattle.std.proofs.lemmas.Result.{IfErr-weaker, err_from_is_err_and}
 use Rattle.std.proofs.lemmas.Slice.Zip.{AllZip-long}
 use Rattle.std.specs.Prelude.{Contains}
 use Rattle.plane.specs.declared.point.Point.{Point}
 use Rattle.scaled_plane.specs.Drawn.{IsDrawn}
 use Rattle.scaled_plane.specs.Scaling.{IsFirstOf}
 use Rattle.drawing_repair.specs.Repaired.{AreFoundWithin, IsRefusal, IsWideDrawn}
+use Rattle.drawing_repair.specs.declared.answer.RepairFault.TheVariants.{TooWide, Memory}
+use Rattle.drawing_repair.specs.declared.answer.Stage.TheVariants.{Drawn}
 use Rattle.drawing_repair.proofs.Exact.{drawn_coords}
 use Rattle.drawing_repair.proofs.Found.{found_walks}
 use Rattle.drawing_repair.proofs.repair.repair_ends.Goals as goal
@@ -40,6 +42,15 @@ returns-in_err-coords-clause-refused g c =
             (subst (λ (ps : List (Point g.row.N-Ring.Denot)). IsFirstOf (IsWideDrawn numbers ps (to_z w128 (of_z w128 scaled.common))) h.0) c.as_slice.ensures h.2),
       ))
     ])
+
+-- what is too wide would be a refusal, which narrow coordinates rule out
+pub returns-in_err-coords-clause-narrow : goal.returns-in_err-coords-clause-narrow
+returns-in_err-coords-clause-narrow g c = λ narrow.
+    let no = c.vertices_can_be_written.ensures.narrow c.args.flat c.args.ends.now c.args.faces in
+    IfErr-weaker c.from_residual-in_err-coords.result _ _ (λ fault refused v wide. elim refused [
+      | inl m ↦ let memory : TooWide v Drawn ≡ Memory m.0 = sym wide ∙ m.1 in cc
+      | inr h ↦ no v narrow (subst (IsRefusal g.N.Exact.parts g.N.Ring.Whole.numbers c.args.flat c.args.ends.now c.args.faces) wide h)
+    ]) (returns-in_err-coords-clause-refused g c)
 
 pub returns-in_err-faces-clause-refused : goal.returns-in_err-faces-clause-refused
 returns-in_err-faces-clause-refused g c =
