@@ -15,3 +15,6 @@ pub mod Lowest
 pub mod Framed
 pub mod FrameAnswers
 mod EdgeLines
+mod StripFiles
+mod PlainTexts
+mod PatternText

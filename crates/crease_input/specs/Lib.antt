@@ -5,3 +5,5 @@ pub mod Readings
 pub mod Roots
 pub mod Files
 pub mod Frames
+pub mod Strips
+pub mod Pattern

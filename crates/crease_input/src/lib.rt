@@ -10,9 +10,11 @@ mod file;
 mod frame;
 mod laws;
 mod lines;
+mod pattern;
 mod reading;
 mod root;
 mod segments;
+mod strips;
 mod texts;
 mod vertices;
 
@@ -22,8 +24,10 @@ pub use file::drawing_file;
 pub use frame::frame_ends;
 pub use laws::{one_drawing, one_file, one_list_of_lines, one_reading};
 pub use lines::{all_lines_ends, lines_ends};
+pub use pattern::pattern_text;
 pub use root::frame_root;
 pub use segments::drawing_lines;
+pub use strips::make_strips;
 
 #[cfg(test)]
 mod tests;

@@ -5,7 +5,7 @@ ghost use Rattle.number_rules.specs.Kept.{KeepsItsRow};
 ghost use Rattle.root_two.specs.Roots.{root_parts};
 ghost use Rattle.crease_input.specs.Lines.{IsReadable};
 
-use crate::{Axis, InputFault, all_lines_ends, drawing_file, frame_root, lines_ends};
+use crate::{Axis, InputFault, all_lines_ends, drawing_file, frame_root, lines_ends, pattern_text};
 use cp_lines::CpLine;
 use exact_number::Exact;
 use fold_base::{Letter, List};
@@ -184,6 +184,8 @@ fn a_drawing_as_a_file(rt: HostRuntime) -> Result<(), Fail> {
             r#""edges_vertices":[[0,1]],"edges_assignment":["M"]}"#
         )
     );
+    let pattern = pattern_text(alloc, &ends)?;
+    assert_eq!(rt; pattern.as_str().strip_suffix('\n'), Some(text.as_str()));
     let frame = effective(alloc, &file, 0)?;
     assert_eq!(rt; frame_root(&frame), Some(2));
     Ok(())

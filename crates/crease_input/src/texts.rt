@@ -13,13 +13,20 @@ use number_rules::{exact_text, nine_texts, one_nine, print9, round_to_nine};
 use scaled_plane::Pair;
 use std::alloc::{AllocError, Global};
 
+/// The text of a number that the bytes are known to spell.
+pub(crate) fn spelled(bytes: &[u8]) -> &str
+    requires { IsNumber bytes.now }
+    ensures { result.now ≡ bytes.now }
+{
+    std::str::from_utf8(bytes).unwrap()
+}
+
 /// The number that the bytes are known to spell.
 pub(crate) fn number(alloc: Global, bytes: &[u8]) -> Result<NumberText, AllocError>
     requires { IsNumber bytes.now }
     ensures { IfOk result (λ number. number ≡ bytes.now) }
 {
-    let text = std::str::from_utf8(bytes).unwrap();
-    match NumberText::read(alloc, text) {
+    match NumberText::read(alloc, spelled(bytes)) {
         Ok(number) => Ok(number),
         Err(NumberReadFault::Memory(error)) => Err(error),
         Err(NumberReadFault::NoNumber) => unreachable!(),
