@@ -24,5 +24,6 @@ pub mod SheetSides
 pub mod ConvexFaces
 pub mod Tests
 pub mod EdgeImageLaws
+pub mod LaidEdgeLaws
 pub mod EdgePlaces
 pub mod Triangle

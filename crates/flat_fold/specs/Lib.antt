@@ -13,4 +13,5 @@ pub mod PathMaps
 pub mod Sheets
 pub mod EdgeSides
 pub mod EdgeImages
+pub mod LaidEdges
 pub mod Triangle

@@ -5,10 +5,12 @@ ghost use Rattle.flat_fold.specs.Computed.{Computed, ComputedField};
 ghost use Rattle.flat_fold.specs.declared.sides.Sides.{Sides as AnySides};
 ghost use Rattle.flat_fold.specs.EdgeSides.{HasSides, KnowsSides};
 ghost use Rattle.flat_fold.specs.Faces.{IsWalk, corners_at, edge_at};
-ghost use Rattle.flat_fold.specs.Folded.{IsFirstPlacePast, IsFolding};
+ghost use Rattle.flat_fold.specs.EdgeImages.{AreEdgeImages};
+ghost use Rattle.flat_fold.specs.Folded.{IsFirstPlacePast, IsFolded, IsFolding, Layout};
 ghost use Rattle.flat_fold.specs.Images.{AreImages, AreNumbers, corner_at};
 ghost use Rattle.flat_fold.specs.declared.images.Origin.{Origin as AnyOrigin};
 ghost use Rattle.flat_fold.specs.Folding.{IsFoldable, IsPathMap, Closes, Disagrees, GoesRound, IsFirstDisagreeing, IsFirstMapPast, point, walk_map};
+ghost use Rattle.flat_fold.specs.LaidEdges.{AreLaid};
 ghost use Rattle.flat_fold.specs.Motions.{place, identity, composed, reflection, IsIsometry, IsOnLine, squared_distance, doubled_area, handedness};
 ghost use Rattle.flat_fold.specs.PathMaps.{ArePathMaps};
 ghost use Rattle.flat_fold.specs.Sheets.{FormSheet, drawing_of, unfolded_face};
@@ -112,6 +114,13 @@ pub fn each_edge_has_a_face<N: Exact>()
     ensures between { (ends : Ends N) (faces : List Face) → FormSheet N.parts N.Ring.numbers ends faces → (e : ℕ) → e < length ends.edges
         → ¬ ((edge_at ends.edges e).letter ≡ Border) → (sides : AnySides) → HasSides faces (edge_at ends.edges e) sides
         → ¬ (sides.left ≡ None) × ¬ (sides.right ≡ None) }
+{}
+
+/// The images of a folded sheet's edges are those by places: of each edge the different pairs of images at which its faces
+/// lay its ends, in the order of the least face that lays them at each.
+pub fn edge_images_by_places<N: Exact>()
+    ensures { (layout : Layout N N.Ring) (edges : List Edge) → FormSheet N.parts N.Ring.numbers layout.sheet.ends layout.sheet.faces
+        → IsFolded N.parts N.numbers.field N.Ring.numbers layout → AreEdgeImages layout edges ↔ AreLaid N.numbers.field layout edges }
 {}
 
 /// Path maps are found in one way: what `path_maps` answers is one, but for want of memory, and so is the least edge that

@@ -18,8 +18,8 @@ pub use fold::{FoldFlatFault, fold_flat};
 pub use folded::Folded;
 pub use images::Origin;
 pub use laws::{
-    closing, compositions, each_edge_has_a_face, faces_of_sheets_are_convex, isometries,
-    one_folding, one_list_of_sides, operations, path_maps_are_one, reflections,
+    closing, compositions, each_edge_has_a_face, edge_images_by_places, faces_of_sheets_are_convex,
+    isometries, one_folding, one_list_of_sides, operations, path_maps_are_one, reflections,
     sheets_are_foldable, sheets_are_well_set, triangle_is_foldable,
 };
 pub use levels::{Between, MapFault, path_maps};
