@@ -15,3 +15,4 @@ pub mod SheetFaces
 pub mod CornerSides
 pub mod SheetEdges
 pub mod BesideFaces
+pub mod Extents

@@ -8,3 +8,4 @@ pub mod Faces
 pub mod Sides
 pub mod NumberSets
 pub mod Views
+pub mod Extents

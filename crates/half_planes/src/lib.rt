@@ -5,6 +5,7 @@
 mod beside;
 mod bound;
 mod enters;
+mod extent;
 mod face;
 mod interval;
 mod lines;

@@ -1,11 +1,13 @@
 ghost use Rattle.std.specs.Prelude.{◌≡◌, ◌<◌, ◌^◌, All, IsTrue, ◌↔◌, length};
 ghost use Rattle.std.proofs.Props.{props};
 ghost use Rattle.layers.specs.Sheets.{Overlap};
+ghost use Rattle.layers.specs.Folded.{IsConvex};
 ghost use Rattle.layers.specs.Listing.{ThreeOverlap};
 ghost use Rattle.scaled_plane.specs.Drawn.{IsScaledPoint};
 ghost use Rattle.half_planes.specs.NumberSets.{numbers_are_set};
 ghost use Rattle.half_planes.specs.Views.{face_at};
 
+use crate::extent::lie_apart;
 use crate::face::FaceView;
 use crate::overlap::{insides_meet, three_insides_meet};
 use crate::sheet::SheetView;
@@ -28,7 +30,10 @@ impl<'a, S: SheetView> SheetFace<'a, S> {
         ensures sheet { result.sheet.now ≡ sheet.now }
         ensures place { result.place ≡ place }
         ensures few { length (face_at (S.sheet sheet.now) place).corners < 2 ^ 30 }
+        ensures convex { IsConvex S.Ring.numbers.ring (face_at (S.sheet sheet.now) place) }
     {
+        let count = sheet.face_count();
+        prove!(place < count);
         let corners = sheet.corner_count(place);
         SheetFace {
             sheet,
@@ -64,10 +69,12 @@ pub fn faces_overlap<S: SheetView>(sheet: &S, first: u32, second: u32) -> bool
     requires second { second < length (S.sheet sheet.now).faces }
     ensures { IsTrue result ↔ Overlap S.Ring.numbers.ring (S.sheet sheet.now) first second }
 {
-    insides_meet(
-        &SheetFace::new(sheet, first),
-        &SheetFace::new(sheet, second),
-    )
+    let first = SheetFace::new(sheet, first);
+    let second = SheetFace::new(sheet, second);
+    if lie_apart(&first, &second) {
+        return false;
+    }
+    insides_meet(&first, &second)
 }
 
 /// Whether some point is inside three faces of a sheet.
@@ -77,9 +84,17 @@ pub fn three_overlap<S: SheetView>(sheet: &S, first: u32, second: u32, third: u3
     requires third { third < length (S.sheet sheet.now).faces }
     ensures { IsTrue result ↔ ThreeOverlap S.Ring.numbers.ring (S.sheet sheet.now) first second third }
 {
-    three_insides_meet(
-        &SheetFace::new(sheet, first),
-        &SheetFace::new(sheet, second),
-        &SheetFace::new(sheet, third),
-    )
+    let first = SheetFace::new(sheet, first);
+    let second = SheetFace::new(sheet, second);
+    let third = SheetFace::new(sheet, third);
+    if lie_apart(&first, &second) {
+        return false;
+    }
+    if lie_apart(&second, &third) {
+        return false;
+    }
+    if lie_apart(&third, &first) {
+        return false;
+    }
+    three_insides_meet(&first, &second, &third)
 }
