@@ -1,4 +1,4 @@
-ghost use Rattle.std.specs.Prelude.{◌<◌, ◌↔◌, IsTrue, length};
+ghost use Rattle.std.specs.Prelude.{◌<◌, ◌↔◌, ◌⊎◌, IsTrue, length};
 ghost use Rattle.layers.specs.Sheets.{IsJoin};
 ghost use Rattle.layers.specs.Orders.{Above};
 ghost use Rattle.layers.specs.Folded.{IsFolded};
@@ -36,6 +36,20 @@ fn beside_changes<S: SheetView>(judged: &Judged<S>, join: EdgeFaces, near: u32, 
     changes(judged, join, near, far) && are_beside(judged.sheet, join.edge, join.first, near)
 }
 
+/// Whether it does so with the faces of another join, either of which may be the near one.
+fn either_changes<S: SheetView>(judged: &Judged<S>, join: EdgeFaces, other: EdgeFaces) -> bool
+    requires join { IsUncut S.Ring.numbers.ring (S.sheet judged.now.sheet.now) join.edge join.first join.second }
+    requires other { IsUncut S.Ring.numbers.ring (S.sheet judged.now.sheet.now) other.edge other.first other.second }
+    ensures { IsTrue result
+        ↔ ((AreBeside S.Ring.numbers.ring (S.sheet judged.now.sheet.now) join.edge join.first other.first × Changes S.Ring.numbers.ring (S.sheet judged.now.sheet.now) (Above (S.sheet judged.now.sheet.now) (layer_orders judged.now.orders.now)) join.first join.second other.first other.second)
+        ⊎ (AreBeside S.Ring.numbers.ring (S.sheet judged.now.sheet.now) join.edge join.first other.second × Changes S.Ring.numbers.ring (S.sheet judged.now.sheet.now) (Above (S.sheet judged.now.sheet.now) (layer_orders judged.now.orders.now)) join.first join.second other.second other.first)) }
+{
+    if beside_changes(judged, join, other.first, other.second) {
+        return true;
+    }
+    beside_changes(judged, join, other.second, other.first)
+}
+
 /// Whether a later join runs along a join, and they change places.
 fn joins_cross<S: SheetView>(judged: &Judged<S>, join: EdgeFaces, edge: u32) -> bool
     requires folded { IsFolded S.Ring.numbers.ring (S.sheet judged.now.sheet.now) }
@@ -48,13 +62,10 @@ fn joins_cross<S: SheetView>(judged: &Judged<S>, join: EdgeFaces, edge: u32) -> 
     match judged.join(edge) {
         None => false,
         Some(other) => {
-            if !edges_run_together(judged.sheet, join.edge, edge) {
+            if !either_changes(judged, join, other) {
                 return false;
             }
-            if beside_changes(judged, join, other.first, other.second) {
-                return true;
-            }
-            beside_changes(judged, join, other.second, other.first)
+            edges_run_together(judged.sheet, join.edge, edge)
         }
     }
 }

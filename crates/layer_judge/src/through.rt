@@ -1,4 +1,4 @@
-ghost use Rattle.std.specs.Prelude.{◌<◌, ◌↔◌, IsTrue, length};
+ghost use Rattle.std.specs.Prelude.{◌<◌, ◌↔◌, ◌⊎◌, IsTrue, length};
 ghost use Rattle.layers.specs.Sheets.{IsCrease};
 ghost use Rattle.layers.specs.Orders.{Above, LiesBetween};
 ghost use Rattle.layers.specs.Folded.{IsFolded};
@@ -62,6 +62,20 @@ fn beside_between<S: SheetView>(judged: &Judged<S>, crease: EdgeFaces, face: u32
         && are_beside(judged.sheet, crease.edge, crease.first, face)
 }
 
+/// Whether either face of a join does.
+fn either_between<S: SheetView>(judged: &Judged<S>, crease: EdgeFaces, join: EdgeFaces) -> bool
+    requires crease { IsUncut S.Ring.numbers.ring (S.sheet judged.now.sheet.now) crease.edge crease.first crease.second }
+    requires join { IsUncut S.Ring.numbers.ring (S.sheet judged.now.sheet.now) join.edge join.first join.second }
+    ensures { IsTrue result
+        ↔ ((AreBeside S.Ring.numbers.ring (S.sheet judged.now.sheet.now) crease.edge crease.first join.first × LiesBetween (Above (S.sheet judged.now.sheet.now) (layer_orders judged.now.orders.now)) join.first crease.first crease.second)
+        ⊎ (AreBeside S.Ring.numbers.ring (S.sheet judged.now.sheet.now) crease.edge crease.first join.second × LiesBetween (Above (S.sheet judged.now.sheet.now) (layer_orders judged.now.orders.now)) join.second crease.first crease.second)) }
+{
+    if beside_between(judged, crease, join.first) {
+        return true;
+    }
+    beside_between(judged, crease, join.second)
+}
+
 /// Whether a join runs along a crease, and its face on the crease's side is between the crease's two.
 fn join_crosses<S: SheetView>(judged: &Judged<S>, crease: EdgeFaces, edge: u32) -> bool
     requires folded { IsFolded S.Ring.numbers.ring (S.sheet judged.now.sheet.now) }
@@ -73,13 +87,10 @@ fn join_crosses<S: SheetView>(judged: &Judged<S>, crease: EdgeFaces, edge: u32) 
     match judged.join(edge) {
         None => false,
         Some(join) => {
-            if !edges_run_together(judged.sheet, crease.edge, edge) {
+            if !either_between(judged, crease, join) {
                 return false;
             }
-            if beside_between(judged, crease, join.first) {
-                return true;
-            }
-            beside_between(judged, crease, join.second)
+            edges_run_together(judged.sheet, crease.edge, edge)
         }
     }
 }
