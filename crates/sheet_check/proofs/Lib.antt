@@ -1,5 +1,5 @@
 pub mod SameLemmas
-pub mod EdgeLemmas
+pub mod UsedLemmas
 pub mod CommonPoints
 pub mod SweepLemmas
 pub mod SpanLemmas

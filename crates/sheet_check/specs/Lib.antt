@@ -2,6 +2,7 @@ pub mod Same
 pub mod Passed
 pub mod Spans
 pub mod Listed
+pub mod Used
 pub mod Bent
 pub mod Twice
 pub mod Borders

@@ -110,15 +110,15 @@ pub fn first_wrong(
     None
 }
 
-/// The first walk that isn't marked.
-fn first_unmarked(marks: &[bool]) -> Option<usize>
+/// The first place that isn't marked.
+pub fn first_unmarked(marks: &[bool]) -> Option<usize>
     ensures { MatchOption result
         ((w : ℕ) → w < length marks.now → is_marked marks.now w ≡ true)
         (IsFirstOf (λ w. (w < length marks.now) × (is_marked marks.now w ≡ false))) }
 {
-    for walk in 0..marks.len() {
-        if !marks[walk] {
-            return Some(walk);
+    for place in 0..marks.len() {
+        if !marks[place] {
+            return Some(place);
         }
     }
     None

@@ -1,41 +1,50 @@
-ghost use Rattle.std.specs.Prelude.{◌≡◌, ◌↔◌, ◌⊎◌, ◌<◌, ◌≤◌, ◌^◌, ℕ, IsTrue, Contains, MatchOption};
-ghost use Rattle.std.specs.Bool.{OnTrue, OnFalse};
-ghost use Rattle.scaled_plane.specs.declared.drawing.Edge.{Edge as AnyEdge};
+ghost use Rattle.std.specs.Prelude.{◌≡◌, ◌<◌, ℕ, [], true, IfOk, MatchOption, length, slice_set};
 ghost use Rattle.scaled_plane.specs.Scaling.{IsFirstOf};
-ghost use Rattle.scaled_plane.specs.WellSet.{HasEnd};
 ghost use Rattle.sheet_check.specs.Passed.{IsLoose};
+ghost use Rattle.sheet_check.specs.Used.{AreUsed, MarksEnds};
 
+use crate::listing::first_unmarked;
 use scaled_plane::Edge;
+use std::alloc::{AllocError, Global};
 
-fn has_end(edge: Edge, vertex: u32) -> bool
-    ensures { IsTrue result ↔ HasEnd edge vertex }
+/// Marks a vertex, if it has a mark.
+fn mark(marks: &mut [bool], vertex: u32)
+    ensures { marks.new ≡ slice_set marks.old vertex true }
 {
-    edge.from == vertex || edge.to == vertex
+    let vertex = vertex as usize;
+    if vertex < marks.len() {
+        marks[vertex] = true;
+    }
 }
 
-/// Whether a vertex is the end of no edge.
-fn is_loose(edges: &[Edge], vertex: u32) -> bool
-    ensures loose { OnTrue result (IsLoose edges.now vertex) }
-    ensures used { OnFalse result ((e : AnyEdge) × Contains edges.now e × HasEnd e vertex) }
+fn mark_ends(marks: &mut [bool], edge: Edge)
+    ensures { MarksEnds edge marks.old marks.new }
+{
+    mark(marks, edge.from);
+    mark(marks, edge.to);
+}
+
+/// Marks the ends of all edges.
+fn mark_used(marks: &mut [bool], edges: &[Edge])
+    requires { AreUsed [] marks.old }
+    ensures long { length marks.new ≡ length marks.old }
+    ensures used { AreUsed edges.now marks.new }
 {
     for edge in edges {
-        if has_end(*edge, vertex) {
-            return false;
-        }
+        mark_ends(marks, *edge);
     }
-    true
 }
 
 /// The least vertex that is the end of no edge.
-pub fn first_loose(edges: &[Edge], count: u32) -> Option<u32>
-    ensures { MatchOption result
+pub fn first_loose(alloc: Global, edges: &[Edge], count: u32) -> Result<Option<u32>, AllocError>
+    ensures { IfOk result (λ found. MatchOption found
         ((v : ℕ) → v < count → ¬ IsLoose edges.now v)
-        (IsFirstOf (λ v. (v < count) × IsLoose edges.now v)) }
+        (IsFirstOf (λ v. (v < count) × IsLoose edges.now v))) }
 {
-    for vertex in 0..count {
-        if is_loose(edges, vertex) {
-            return Some(vertex);
-        }
+    let mut marks = vec![in alloc; false; count as usize]?;
+    mark_used(marks.as_mut_slice(), edges);
+    match first_unmarked(marks.as_slice()) {
+        Some(vertex) => Ok(Some(vertex as u32)),
+        None => Ok(None),
     }
-    None
 }

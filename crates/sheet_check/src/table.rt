@@ -29,13 +29,18 @@ fn check_different<W: Whole>(alloc: Global, vertices: &[Point<W>]) -> Result<(),
 }
 
 /// Whether each vertex is the end of an edge.
-fn check_used<W: Whole>(vertices: &[Point<W>], edges: &[Edge]) -> Result<(), SheetFault>
+fn check_used<W: Whole>(
+    alloc: Global,
+    vertices: &[Point<W>],
+    edges: &[Edge],
+) -> Result<(), SheetFault>
     requires few { length vertices.now ≤ 16384 }
     requires before { (faces : Listed AnyFace) → HasNoneBefore W.numbers.ring vertices.now edges.now faces 1 }
     ensures passed { OnOk result ((faces : Listed AnyFace) → HasNoneBefore W.numbers.ring vertices.now edges.now faces 2) }
     ensures refused { IfErr result (λ e. (faces : Listed AnyFace) → IsRefusal W.numbers.ring vertices.now edges.now faces e) }
 {
-    match first_loose(edges, vertices.len() as u32) {
+    let loose = first_loose(alloc, edges, vertices.len() as u32)?;
+    match loose {
         Some(vertex) => Err(SheetFault::Flaw(SheetFlaw::Loose { vertex })),
         None => Ok(()),
     }
@@ -75,6 +80,6 @@ pub fn check_plane<W: Whole>(
     ensures refused { IfErr result (λ e. (faces : Listed AnyFace) → IsRefusal W.numbers.ring vertices.now edges.now faces e) }
 {
     check_different(alloc, vertices)?;
-    check_used(vertices, edges)?;
+    check_used(alloc, vertices, edges)?;
     check_meetings(alloc, vertices, edges)
 }
