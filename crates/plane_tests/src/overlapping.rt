@@ -66,6 +66,23 @@ fn half_planes_of_rationals(rt: HostRuntime) {
 }
 
 #[test]
+fn half_planes_about_an_origin(rt: HostRuntime) {
+    // right of the y-axis, above the x-axis, and where the coordinates have a sum below 0
+    let a: Point<RationalRing> = at(&rt, 0, 0);
+    let right = left_of(at(&rt, 0, 1), a);
+    let upper = left_of(a, at(&rt, 1, 0));
+    let beyond = left_of(a, at(&rt, -1, 1));
+    assert!(rt; share_a_point(&[right, upper]));
+    assert!(rt; !share_a_point(&[right, upper, beyond]));
+}
+
+#[test]
+fn no_half_planes(rt: HostRuntime) {
+    let lines: [Line<RationalRing>; 0] = [];
+    assert!(rt; share_a_point(&lines));
+}
+
+#[test]
 fn half_planes_with_roots(rt: HostRuntime) {
     // from 1000√2 to 1415, and from there to 1414: 1000√2 is 1414.2..
     let right: Line<RootTwoRing> = left_of(at_root(&rt, 1000, 1), at_root(&rt, 1000, 0));
