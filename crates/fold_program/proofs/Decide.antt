@@ -1,11 +1,12 @@
 -- what the words say is one thing, and something
-use Rattle.std.proofs.Common.{ℕ, ◌≡◌, ◌≢◌, ◌⊎◌, true, false, List, [], ◌∷◌, inl, inr, refl, sym, ◌∙◌, ap, subst, codes}
+use Rattle.std.proofs.Common.{ℕ, ◌<◌, ◌≤◌, arith, ◌≡◌, ◌≢◌, ◌⊎◌, true, false, List, [], ◌∷◌, inl, inr, refl, sym, ◌∙◌, ap, subst, codes}
 use Rattle.std.specs.declared.option.Option.{Option}
 use Rattle.std.specs.declared.option.Option.TheVariants.{None, Some}
 use Rattle.std.specs.Option.{option_map_or}
+use Rattle.std.specs.Prelude.{MatchOption}
 use Rattle.std.specs.Str.{bytes_eq}
 use Rattle.std.proofs.lemmas.Slice.Eq.{bytes_eq-Decides}
-use Rattle.std.proofs.lemmas.Bool.{false≢true}
+use Rattle.std.proofs.lemmas.Bool.{cases_lt, false≢true}
 use Rattle.std.proofs.lemmas.Option.{same_Some}
 use Rattle.clap.specs.Words.{Kinds, Row}
 use Rattle.drawing_repair.specs.declared.options.Faces.{Faces}
@@ -17,13 +18,15 @@ use Rattle.fold_program.specs.NumberOption.{NamesChoice}
 use Rattle.fold_program.specs.declared.number_option.NumberChoice.{NumberChoice}
 use Rattle.fold_program.specs.declared.number_option.NumberChoice.TheVariants.{Exact}
 use Rattle.fold_program.proofs.NumberOption.{choice_one, choice_or_not}
-use Rattle.fold_program.specs.Words.{Text, NamesFaces, NamesFlat, NamesFormat, NamesNumber, Says, IsConversion, Mean, MeanShow, MeanConvert, MeanRepair, MeanFold, MeanJudge, AreTaken, AreWordsOf, AreRefused, Reads, TakeNothing, faults, found, said_in}
+use Rattle.fold_program.specs.Words.{Text, NamesCount, NamesFaces, NamesFlat, NamesFormat, NamesNumber, Says, IsConversion, Mean, MeanShow, MeanConvert, MeanRepair, MeanFold, MeanJudge, MeanDrill, AreTaken, AreWordsOf, AreRefused, Reads, TakeNothing, faults, found, said_in}
 use Rattle.fold_program.specs.declared.status.Status.{Status}
 use Rattle.fold_program.specs.declared.status.Status.TheVariants.{Words}
 use Rattle.fold_program.specs.declared.status.WordsCause.TheVariants.{Refused, Value}
 use Rattle.fold_program.specs.declared.words.Command.{Command}
 use Rattle.fold_program.specs.declared.words.Command.TheVariants.{Show, Convert, Repair}
 use Rattle.fold_program.specs.declared.words.Command.TheVariants as commands
+use Rattle.fold_program.specs.Outcome.{strip_of}
+use Rattle.fold_program.specs.declared.words.DrillOptions.{DrillOptions}
 use Rattle.fold_program.specs.declared.words.FoldOptions.{FoldOptions}
 use Rattle.fold_program.specs.declared.words.JudgeOptions.{JudgeOptions}
 use Rattle.fold_program.specs.declared.words.ConvertOptions.{ConvertOptions}
@@ -88,6 +91,39 @@ number_or_not text = at (id_in_text text) refl
         → ((n : ℕ) × NamesNumber text n) ⊎ ((n : ℕ) → ¬ NamesNumber text n)
     at None e = inr (λ n h. let both : None ≡ Some n = sym e ∙ h in cc)
     at (Some n) e = inl (n, e)
+
+count_one : NamesOne NamesCount
+count_one text x y p q = number_one text x y p.0 q.0
+
+-- no number of squares is out of its range
+past : (v : ℕ) → (v ≡ 0) ⊎ (500 < v) → (n : ℕ) → v ≡ n → 1 ≤ n → n ≤ 500 → ⊥
+past v (inl none) n same some few = omega (arith, none, same, some)
+past v (inr many) n same some few = omega (arith, many, same, few)
+
+-- what a text names, by the number that it spells
+pub count_out : (text : Text) (v : ℕ) → id_in_text text ≡ Some v → (v ≡ 0) ⊎ (500 < v) → (n : ℕ) → ¬ NamesCount text n
+count_out text v is out n h = past v out n (same_Some v n (sym is ∙ h.0)) h.1 h.2
+
+pub counted : (text : Text) (v : ℕ) (found : Option ℕ) → Some v ≡ id_in_text text
+    → MatchOption found ((v ≡ 0) ⊎ (500 < v)) (λ n. (n ≡ v) × (1 ≤ n) × (n ≤ 500))
+    → MatchOption found ((n : ℕ) → ¬ NamesCount text n) (NamesCount text)
+counted text v None is out = count_out text v (sym is) out
+counted text v (Some n) is h = (sym is ∙ ap Some (sym h.0), h.1, h.2)
+
+pub uncounted : (text : Text) → None ≡ id_in_text text → (n : ℕ) → ¬ NamesCount text n
+uncounted text none n h = let no : None ≡ Some n = none ∙ h.0 in cc
+
+count_or_not : NamesOrNot NamesCount
+count_or_not text = elim (number_or_not text) [
+  | inl p ↦ elim (cases_lt 0 p.0) [
+    | inl some ↦ elim (cases_lt 500 p.0) [
+      | inl many ↦ inr (count_out text p.0 p.1 (inr many))
+      | inr few ↦ inl (p.0, (p.1, omega (arith, some), omega (arith, few)))
+    ]
+    | inr none ↦ inr (count_out text p.0 p.1 (inl (omega (arith, none))))
+  ]
+  | inr none ↦ inr (λ n h. none n h.0)
+]
 
 -- ---- the options of a command
 
@@ -271,6 +307,16 @@ judge_or_not said = elim (says_or_not NamesNumber 0 number_or_not (said (codes "
   | inr none ↦ inr (λ o h. none o.frame h.frame)
 ]
 
+drill_one : (said : Text → Option Text) (o p : DrillOptions) → MeanDrill said o → MeanDrill said p → o ≡ p
+drill_one said o p h k =
+    let count = says_one NamesCount 100 count_one (said (codes "count")) o.count p.count h k in (λ i. record { count = count i })
+
+drill_or_not : (said : Text → Option Text) → ((o : DrillOptions) × MeanDrill said o) ⊎ ((o : DrillOptions) → ¬ MeanDrill said o)
+drill_or_not said = elim (says_or_not NamesCount 100 count_or_not (said (codes "count"))) [
+  | inl count ↦ inl (record { count = count.0 }, count.1)
+  | inr none ↦ inr (λ o h. none o.count h)
+]
+
 -- ---- the command
 
 mean_one : (name : Text) (said : Text → Option Text) (c d : Command) → Mean name said c → Mean name said d → c ≡ d
@@ -279,6 +325,7 @@ mean_one name said (Convert o) (Convert p) h k = ap Convert (convert_one said o 
 mean_one name said (Repair o) (Repair p) h k = ap Repair (repair_one said o p h.1 k.1)
 mean_one name said (commands.Fold o) (commands.Fold p) h k = ap commands.Fold (fold_one said o p h.1 k.1)
 mean_one name said (commands.Judge o) (commands.Judge p) h k = ap commands.Judge (judge_one said o p h.1 k.1)
+mean_one name said (commands.Drill o) (commands.Drill p) h k = ap commands.Drill (drill_one said o p h.1 k.1)
 mean_one name said c d h k = absurd (two_texts name _ _ refl h.0 k.0)
 
 -- options that are said, or none, of the one command with this name
@@ -303,15 +350,20 @@ module _ (name : Text) (said : Text → Option Text) where
   no_judge judge none (commands.Judge o) h = none o h.1
   no_judge judge none c h = two_texts name _ _ refl judge h.0
 
+  pub no_drill : name ≡ codes "drill" → ((o : DrillOptions) → ¬ MeanDrill said o) → (c : Command) → ¬ Mean name said c
+  no_drill drill none (commands.Drill o) h = none o h.1
+  no_drill drill none c h = two_texts name _ _ refl drill h.0
+
   -- the name is that of one of the commands, or of none
   named : (c : Command) → Mean name said c
       → (name ≡ codes "show") ⊎ ((name ≡ codes "convert") ⊎ ((name ≡ codes "repair")
-      ⊎ ((name ≡ codes "fold") ⊎ (name ≡ codes "judge"))))
+      ⊎ ((name ≡ codes "fold") ⊎ ((name ≡ codes "judge") ⊎ (name ≡ codes "drill")))))
   named (Show o) h = inl h.0
   named (Convert o) h = inr (inl h.0)
   named (Repair o) h = inr (inr (inl h.0))
   named (commands.Fold o) h = inr (inr (inr (inl h.0)))
-  named (commands.Judge o) h = inr (inr (inr (inr h.0)))
+  named (commands.Judge o) h = inr (inr (inr (inr (inl h.0))))
+  named (commands.Drill o) h = inr (inr (inr (inr (inr h.0))))
 
   abbrev MeanOrNot : Type 0
   MeanOrNot = ((c : Command) × Mean name said c) ⊎ ((c : Command) → ¬ Mean name said c)
@@ -334,26 +386,39 @@ module _ (name : Text) (said : Text → Option Text) where
           | inl is ↦ by_options (MeanFold said) (λ o h. (commands.Fold o, (is, h))) (no_fold is) (fold_or_not said)
           | inr not_fold ↦ elim (same_text name (codes "judge")) [
             | inl is ↦ by_options (MeanJudge said) (λ o h. (commands.Judge o, (is, h))) (no_judge is) (judge_or_not said)
-            | inr not_judge ↦ inr (λ c h. elim (named c h) [
-              | inl e ↦ not_show e
-              | inr (inl e) ↦ not_convert e
-              | inr (inr (inl e)) ↦ not_repair e
-              | inr (inr (inr (inl e))) ↦ not_fold e
-              | inr (inr (inr (inr e))) ↦ not_judge e
-            ])
+            | inr not_judge ↦ elim (same_text name (codes "drill")) [
+              | inl is ↦ by_options (MeanDrill said) (λ o h. (commands.Drill o, (is, h))) (no_drill is) (drill_or_not said)
+              | inr not_drill ↦ inr (λ c h. elim (named c h) [
+                | inl e ↦ not_show e
+                | inr (inl e) ↦ not_convert e
+                | inr (inr (inl e)) ↦ not_repair e
+                | inr (inr (inr (inl e))) ↦ not_fold e
+                | inr (inr (inr (inr (inl e)))) ↦ not_judge e
+                | inr (inr (inr (inr (inr e)))) ↦ not_drill e
+              ])
+            ]
           ]
         ]
       ]
     ]
   ]
 
--- every command reads the input
-reads : (command : Command) → Reads command
-reads (Show options) = tt
-reads (Convert options) = tt
-reads (Repair options) = tt
-reads (commands.Fold options) = tt
-reads (commands.Judge options) = tt
+-- a command reads the input, or the text of a strip
+reads : (command : Command) → strip_of command ≡ None → Reads command
+reads (Show options) none = tt
+reads (Convert options) none = tt
+reads (Repair options) none = tt
+reads (commands.Fold options) none = tt
+reads (commands.Judge options) none = tt
+reads (commands.Drill options) none = let no : None ≡ Some options.count = sym none in cc
+
+reads_strip : (command : Command) (count : ℕ) → strip_of command ≡ Some count → ¬ Reads command
+reads_strip (Show options) count some r = let no : None ≡ Some count = some in cc
+reads_strip (Convert options) count some r = let no : None ≡ Some count = some in cc
+reads_strip (Repair options) count some r = let no : None ≡ Some count = some in cc
+reads_strip (commands.Fold options) count some r = let no : None ≡ Some count = some in cc
+reads_strip (commands.Judge options) count some r = let no : None ≡ Some count = some in cc
+reads_strip (commands.Drill options) count some r = r
 
 -- ---- the words
 
@@ -410,6 +475,28 @@ pub refused_words : (words : List Text) (s : Status) → AreRefused words s → 
 refused_words words s (inl p) = inl p.1
 refused_words words s (inr p) = inr p.4
 
--- words that take nothing have no command
-pub no_command : (words : List Text) (command : Command) → TakeNothing words → AreWordsOf words command → ⊥
-no_command words command nothing h = nothing command h (reads command)
+-- words that take nothing have no command that reads the input
+pub no_command : (words : List Text) (command : Command) → strip_of command ≡ None → TakeNothing words → AreWordsOf words command → ⊥
+no_command words command none nothing h = nothing command h (reads command none)
+
+-- words of a command that reads the text of a strip take nothing
+pub take_nothing : (words : List Text) (command : Command) (count : ℕ) → strip_of command ≡ Some count → AreWordsOf words command → TakeNothing words
+take_nothing words command count some h other k =
+    subst (λ c. ¬ Reads c) (one_command words command other h k) (reads_strip command count some)
+
+-- and the squares of the strip are from 1 to 500
+pub in_range : (words : List Text) (command : Command) (count : ℕ) → strip_of command ≡ Some count → AreWordsOf words command → (1 ≤ count) × (count ≤ 500)
+in_range words command count some h = of command count some h.0 (said_in h.1) h.3
+  where
+    said_count : (said : Option Text) (n : ℕ) → Says NamesCount 100 said n → (1 ≤ n) × (n ≤ 500)
+    said_count None n is = (omega (arith, is), omega (arith, is))
+    said_count (Some text) n is = (is.1, is.2)
+
+    of : (c : Command) (n : ℕ) → strip_of c ≡ Some n → (name : Text) (said : Text → Option Text) → Mean name said c → (1 ≤ n) × (n ≤ 500)
+    of (Show options) n some name said h = let no : None ≡ Some n = some in absurd (cc)
+    of (Convert options) n some name said h = let no : None ≡ Some n = some in absurd (cc)
+    of (Repair options) n some name said h = let no : None ≡ Some n = some in absurd (cc)
+    of (commands.Fold options) n some name said h = let no : None ≡ Some n = some in absurd (cc)
+    of (commands.Judge options) n some name said h = let no : None ≡ Some n = some in absurd (cc)
+    of (commands.Drill options) n some name said h =
+        subst (λ k. (1 ≤ k) × (k ≤ 500)) (same_Some options.count n some) (said_count (said (codes "count")) options.count h.1)

@@ -1,16 +1,19 @@
 -- from what is due to what was written
-use Rattle.std.proofs.Common.{◌≡◌, ◌≢◌, ◌⊎◌, ℕ, arith, List, [], Result, Err, None, Some, append-nil, inl, inr, refl, sym, ◌∙◌, subst}
+use Rattle.std.proofs.Common.{◌≡◌, ◌≢◌, ◌⊎◌, ℕ, arith, length, List, [], Result, Ok, Err, None, Some, ap, append-nil, inl, inr, refl, sym, ◌∙◌, subst}
 use Rattle.std.specs.declared.option.Option.{Option}
-use Rattle.fold_base.specs.Outside.{Gains, GainsPart, Gives}
+use Rattle.fold_base.specs.Outside.{Gains, GainsPart, Gives, IsSpent, Rose}
+use Rattle.std.specs.Prelude.{IfErr}
 use Rattle.fold_program.specs.Crossings.{no_line}
-use Rattle.fold_program.specs.Status.{IsAnswer, IsFailure}
+use Rattle.fold_program.specs.Drawings.{NeverStops}
+use Rattle.fold_program.specs.Drills.{IsStripText}
+use Rattle.fold_program.specs.Status.{IsAnswer, IsFailure, status_of}
 use Rattle.fold_program.specs.Steps.{Ends, Follows, due_with}
-use Rattle.fold_program.specs.Outside.{PutsInto, PutsText, TakesFrom}
-use Rattle.fold_program.specs.Words.{AreWordsOf, AreRefused}
-use Rattle.fold_program.specs.Outcome.{AreLeft, AreRead, AreUnread, Does, Makes, format_of, IsOutcome, KeepsToOutcome, HasOutcome}
+use Rattle.fold_program.specs.Outside.{PutsInto, PutsText, Takes, TakesAll, TakesFrom}
+use Rattle.fold_program.specs.Words.{AreWordsOf, AreRefused, TakeNothing}
+use Rattle.fold_program.specs.Outcome.{AreLeft, AreRead, AreUnread, Does, DoesFrom, DoesWith, Makes, format_of, strip_of, IsOutcome, KeepsToOutcome, HasOutcome}
 use Rattle.fold_program.specs.declared.input.Input.{Input}
 use Rattle.fold_program.specs.declared.status.Status.{Status}
-use Rattle.fold_program.specs.declared.status.Status.TheVariants.{Done, No, Words, Write, Memory}
+use Rattle.fold_program.specs.declared.status.Status.TheVariants.{Done, No, Words, Read, Write, Memory}
 use Rattle.fold_program.specs.declared.status.NoCause.{NoCause}
 use Rattle.fold_program.specs.declared.status.WordsCause.{WordsCause}
 use Rattle.fold_program.specs.declared.status.WordsCause.TheVariants.{Refused, Value}
@@ -29,17 +32,54 @@ pub refused : (words : List (List ℕ)) (left : Option (List ℕ)) (status : Sta
 refused words left status (inl memory) = let bytes = some_left left in (bytes.0, bytes.1, inl (inr memory))
 refused words left status (inr h) = let bytes = some_left left in (bytes.0, bytes.1, ends_here (AreRefused words) (AreWordsOf words) (λ command. Does command bytes.0) status h)
 
--- the words are a command's, the bytes were read, and this was made of what they spell
-pub made : (words : List (List ℕ)) (left : Option (List ℕ)) (command : Command) → AreWordsOf words command → (format : Format) → format ≡ format_of command
+-- the bytes were read, and this was made of what they spell
+pub made : (left : Option (List ℕ)) (command : Command) (format : Format) → format ≡ format_of command
     → (spelled : Input) → ((bytes : List ℕ) × AreLeft left bytes × AreRead format bytes spelled) → (r : Result (List ℕ) Status) → Follows (Makes command spelled) r
-    → (bytes : List ℕ) × AreLeft left bytes × Ends (IsOutcome words bytes) r
-made words left command h format same spelled read r follows = (
+    → (bytes : List ℕ) × AreLeft left bytes × Ends (DoesWith command bytes) r
+made left command format same spelled read r follows = (
   read.0,
   read.1,
-  ends_on (AreRefused words) (AreWordsOf words) (λ command. Does command read.0) command h r
-      (ends_on (AreUnread (format_of command) read.0) (AreRead (format_of command) read.0) (Makes command) spelled (subst (λ f. AreRead f read.0 spelled) same read.2) r
-      (ends_following (Makes command spelled) r follows)),
+  ends_on (AreUnread (format_of command) read.0) (AreRead (format_of command) read.0) (Makes command) spelled (subst (λ f. AreRead f read.0 spelled) same read.2) r
+      (ends_following (Makes command spelled) r follows),
 )
+
+-- the text of a strip was read, and this was made of it
+pub of_text : (count : ℕ) (command : Command) (text : List ℕ) → IsStripText count text → (r : Result (List ℕ) Status)
+    → ((bytes : List ℕ) × (bytes ≡ text) × Ends (DoesWith command bytes) r) → Ends (DoesFrom (Some count) command []) r
+of_text count command text is r read =
+    ends_on NeverStops (IsStripText count) (DoesWith command) read.0 (subst (IsStripText count) (sym read.1) is) r read.2
+
+-- what doesn't fail to read
+pub unread : (r : Result (List ℕ) Status) → (r ≡ Err Read → ⊥) → IfErr r (λ status. status ≢ Read)
+unread (Ok text) never = tt
+unread (Err status) never = λ e. never (ap Err e)
+
+pub status_unread : (r : Result (List ℕ) Status) → IfErr r (λ status. status ≢ Read) → status_of r ≢ Read
+status_unread (Ok text) h = λ e. cc
+status_unread (Err status) h = h
+
+-- the words are those of a command that makes this of the input
+pub of_input : (words : List (List ℕ)) (left : Option (List ℕ)) (command : Command) → AreWordsOf words command → strip_of command ≡ None
+    → (r : Result (List ℕ) Status) → ((bytes : List ℕ) × AreLeft left bytes × Ends (DoesWith command bytes) r)
+    → (bytes : List ℕ) × AreLeft left bytes × Ends (IsOutcome words bytes) r
+of_input words left command h none r ends = (
+  ends.0,
+  ends.1,
+  ends_on (AreRefused words) (AreWordsOf words) (λ command. Does command ends.0) command h r
+      (subst (λ strip. Ends (DoesFrom strip command ends.0) r) (sym none) ends.2),
+)
+
+-- the words are those of a command that makes this of the text of a strip, whatever the bytes are
+pub of_strip : (words : List (List ℕ)) (left : Option (List ℕ)) (command : Command) → AreWordsOf words command → (count : ℕ)
+    → strip_of command ≡ Some count → (r : Result (List ℕ) Status) → Ends (DoesFrom (Some count) command []) r
+    → (bytes : List ℕ) × AreLeft left bytes × Ends (IsOutcome words bytes) r
+of_strip words left command h count some r ends =
+    let bytes = some_left left in (
+      bytes.0,
+      bytes.1,
+      ends_on (AreRefused words) (AreWordsOf words) (λ command. Does command bytes.0) command h r
+          (subst (λ strip. Ends (DoesFrom strip command bytes.0) r) (sym some) ends),
+    )
 
 gains_none : (told : Option (List ℕ)) → Gains told told []
 gains_none None = tt
@@ -123,11 +163,33 @@ module _ {S : Type 0} (left : S → Option (List ℕ)) (faults : S → ℕ) (wor
     | inr p ↦ subst (TakesFrom left faults words old new) (sym p.0) (takes_write due answer t)
   ]
 
+-- what is taken from the input
+pub takes_input : {S : Type 0} (left : S → Option (List ℕ)) (faults : S → ℕ) (words : List (List ℕ)) (old new : S) (status : Status)
+    → ((bytes : List ℕ) × Gives (left old) (left new) bytes × Takes status (length bytes))
+    → (TakesAll status → IsSpent (left new)) → ¬ TakeNothing words → (status ≡ Read → Rose (faults old) (faults new))
+    → TakesFrom left faults words old new status
+takes_input left faults words old new status taken end reads failed = record {
+  taken = (taken.0, taken.1, inr taken.2);
+  all = λ h. inr (end h);
+  nothing = λ nothing. absurd (reads nothing);
+  failed = failed;
+}
+
+-- where the words take nothing, nothing is taken
+pub takes_none : {S : Type 0} (left : S → Option (List ℕ)) (faults : S → ℕ) (words : List (List ℕ)) (source : S) (status : Status)
+    → TakeNothing words → status ≢ Read → TakesFrom left faults words source source status
+takes_none left faults words source status nothing unread = record {
+  taken = ([], gives_none (left source), inl nothing);
+  all = λ h. inl nothing;
+  nothing = λ h. (refl, unread);
+  failed = λ e. absurd (unread e);
+}
+
 -- where the words are refused, nothing is taken
 pub untaken : {S : Type 0} (left : S → Option (List ℕ)) (faults : S → ℕ) (words : List (List ℕ)) (source : S) (status : Status) → (status ≡ Memory) ⊎ AreRefused words status
     → TakesFrom left faults words source source status
 untaken {S} left faults words source status (inl memory) = subst (TakesFrom left faults words source source) (sym memory) (record {
-  taken = ([], gives_none (left source), omega arith);
+  taken = ([], gives_none (left source), inr (omega arith));
   all = λ h. absurd h;
   nothing = λ h. (refl, λ e. cc);
   failed = λ e. absurd (cc);
@@ -136,7 +198,7 @@ untaken {S} left faults words source status (inr refused) = by_cause (refused_wo
   where
     at : (cause : WordsCause) → TakesFrom left faults words source source (Words cause)
     at cause = record {
-      taken = ([], gives_none (left source), omega arith);
+      taken = ([], gives_none (left source), inr (omega arith));
       all = λ h. absurd h;
       nothing = λ h. (refl, λ e. cc);
       failed = λ e. absurd (cc);

@@ -16,4 +16,6 @@ pub mod OneFold
 pub mod Ordered
 pub mod FoldSteps
 pub mod Headline
+pub mod Narrow
 pub mod SameLists
+mod Replaced

@@ -1,5 +1,5 @@
 -- words and bytes have one outcome
-use Rattle.std.proofs.Common.{◌≡◌, ◌≤◌, ◌⊎◌, None, Some, ℕ, List, ◌∷◌, [], ◌++◌, length, inl, inr, refl, sym, ◌∙◌, ap, arith, subst}
+use Rattle.std.proofs.Common.{◌≡◌, ◌≤◌, ◌⊎◌, None, Some, codes, ℕ, List, ◌∷◌, [], ◌++◌, length, inl, inr, refl, sym, ◌∙◌, ap, arith, subst}
 use Rattle.std.specs.declared.option.Option.{Option}
 use Rattle.std.proofs.lemmas.Bool.{cases_lt}
 use Rattle.std.proofs.lemmas.Option.{same_Some}
@@ -28,7 +28,7 @@ use Rattle.fold_keys.specs.declared.value.Frame.{Frame as KeysFrame}
 use Rattle.fold_keys.specs.declared.fault.ShapeFault.{ShapeFault}
 use Rattle.fold_program.specs.Status.{IsFailure, of_frame, of_lines}
 use Rattle.fold_program.specs.Words.{IsOnTexts, TakeNothing}
-use Rattle.fold_program.specs.Outcome.{HaveFault, Spell, AreUnread, AreRead, HasMisfit, IsFileTree, IsReadFrom, IsSoundTree, HasNoFrame, HasUnevenLists, HasCounts, LacksLines, WritesFrame, with_frame, Makes, format_of, IsOutcome, AreInput, AreLeft, KeepsToOutcome, AskForTexts, HasOutcome, HaveOutcome, HaveAtMostOneOutcome}
+use Rattle.fold_program.specs.Outcome.{HaveFault, Spell, AreUnread, AreRead, Does, DoesFrom, DoesWith, HasMisfit, IsFileTree, IsReadFrom, IsSoundTree, HasNoFrame, HasUnevenLists, HasCounts, LacksLines, WritesFrame, with_frame, Makes, format_of, strip_of, IsOutcome, AreInput, AreLeft, KeepsToOutcome, AskForTexts, HasOutcome, HaveOutcome, HaveAtMostOneOutcome}
 use Rattle.crease_input.specs.Roots.{root_of}
 use Rattle.fold_program.specs.declared.given.Given.TheVariants as given
 use Rattle.fold_program.specs.declared.input.Input.{Input}
@@ -42,14 +42,19 @@ use Rattle.fold_program.specs.declared.words.Command.{Command}
 use Rattle.fold_program.specs.declared.words.Command.TheVariants.{Show, Convert, Repair}
 use Rattle.fold_program.specs.declared.words.Command.TheVariants as commands
 use Rattle.fold_program.specs.declared.words.ConvertOptions.TheVariants.{Frame, Lines, Drawing}
+use Rattle.fold_program.specs.declared.words.JudgeOptions.{JudgeOptions}
 use Rattle.fold_program.specs.declared.words.Format.{Format}
 use Rattle.fold_program.specs.declared.words.Format.TheVariants.{Fold, Cp}
 use Rattle.fold_program.specs.FoldedFrames.{orders_of}
-use Rattle.fold_program.specs.Judges.{HaveOtherFaces, HaveSameFaces}
+use Rattle.fold_program.specs.Judges.{HaveOtherFaces, HaveSameFaces, Judges}
 use Rattle.fold_program.specs.declared.aim.Aim.TheVariants.{Form, Verdict}
 use Rattle.fold_program.proofs.OneFold.{HaveOneFolds, one_folded_with}
 use Rattle.fold_program.proofs.OneRepair.{HaveOneRepairs, one_repaired_by, one_repaired_with}
 use Rattle.fold_program.proofs.Drawn.{HaveOneDrawings, one_drawn_by, some_drawn_by}
+use Rattle.fold_program.specs.Drawings.{NeverStops}
+use Rattle.fold_program.specs.Drills.{InPlaceOfYes, IsStripText, plainly, strip_line}
+use Rattle.crease_input.specs.Strips.{IsStrip, strip_ends, strip_faces, strip_orders}
+use Rattle.fold_program.specs.Steps.{Outcome}
 use Rattle.fold_program.proofs.Chain.{Comes, Goes, IsOne, IsStep, one_answer, one_then, some_then}
 use Rattle.fold_program.proofs.Decide.{no_command, words_go, words_step}
 
@@ -265,6 +270,40 @@ module _ (have : HaveOneFile) (draw : HaveOneDrawings) (repair : HaveOneRepairs)
 
   -- ---- the commands
 
+  one_judged : (options : JudgeOptions) (spelled : Input) → IsOne (Judges options spelled)
+  one_judged options (input.Fold tree) =
+      one_then _ _ _ (file_step tree) (λ file h.
+      one_then _ _ _ (frame_step file options.frame) (λ frame h.
+      one_then _ _ _ (frame_step file options.orders) (λ ordered h.
+      one_then _ _ _ (counts_step frame) (λ counts h.
+      one_then _ _ _ (counts_step ordered) (λ counts h.
+      one_then {X = Unit {0}} _ _ _ (faces_step frame ordered) (λ same h.
+      one_folded_with fold Verdict (orders_of ordered.entries) (root_of frame.entries) options.number frame))))))
+  one_judged options (input.Cp lines) = λ s s' t t' a b. absurd a
+
+  one_in_place : (line : List ℕ) (outcome : Outcome) → IsOne outcome → IsOne (InPlaceOfYes line outcome)
+  one_in_place line outcome one s s' t t' (inl p) (inl q) = (p.0 ∙ sym q.0, p.2 ∙ sym q.2)
+  one_in_place line outcome one s s' t t' (inl p) (inr q) =
+      absurd (q.0 (sym (one Done s' p.1.0 t' p.1.1 q.1).0))
+  one_in_place line outcome one s s' t t' (inr p) (inl q) =
+      absurd (p.0 (sym (one Done s q.1.0 t q.1.1 p.1).0))
+  one_in_place line outcome one s s' t t' (inr p) (inr q) = one s s' t t' p.1 q.1
+
+  -- the text of a strip is one, and there is one
+  strip_step : (count : ℕ) → IsStep NeverStops (IsStripText count)
+  strip_step count = record {
+    one_stop = λ s t p q. absurd p;
+    one_value = λ x y p q.
+        let file : p.0 ≡ q.0 = draw.rational.one_file (codes "creasePattern") (strip_ends count) (Some (strip_faces count)) (Some (strip_orders count)) p.0 q.0 p.1 q.1 in
+        p.2 ∙ ap (λ f. json_form.printed_form (tree_of_file f) ++ 10 ∷ []) file ∙ sym q.2;
+    apart = λ s x p q. p;
+  }
+
+  strip_goes : (count : ℕ) → Goes NeverStops (IsStripText count)
+  strip_goes count =
+      let file = draw.rational.some_file (codes "creasePattern") (strip_ends count) (Some (strip_faces count)) (Some (strip_orders count)) in
+      inr (json_form.printed_form (tree_of_file file.0) ++ 10 ∷ [], (file.0, file.1, refl))
+
   one_made : (command : Command) (spelled : Input) → IsOne (Makes command spelled)
   one_made (Show options) (input.Fold tree) = one_then _ _ _ (keys_step tree) (λ of_file h. one_answer _)
   one_made (Show options) (input.Cp lines) = one_answer _
@@ -289,15 +328,9 @@ module _ (have : HaveOneFile) (draw : HaveOneDrawings) (repair : HaveOneRepairs)
       one_then _ _ _ (counts_step frame) (λ counts h.
       one_folded_with fold Form (orders_of frame.entries) (root_of frame.entries) options.number frame)))
   one_made (commands.Fold options) (input.Cp lines) = λ s s' t t' a b. absurd a
-  one_made (commands.Judge options) (input.Fold tree) =
-      one_then _ _ _ (file_step tree) (λ file h.
-      one_then _ _ _ (frame_step file options.frame) (λ frame h.
-      one_then _ _ _ (frame_step file options.orders) (λ ordered h.
-      one_then _ _ _ (counts_step frame) (λ counts h.
-      one_then _ _ _ (counts_step ordered) (λ counts h.
-      one_then {X = Unit {0}} _ _ _ (faces_step frame ordered) (λ same h.
-      one_folded_with fold Verdict (orders_of ordered.entries) (root_of frame.entries) options.number frame))))))
-  one_made (commands.Judge options) (input.Cp lines) = λ s s' t t' a b. absurd a
+  one_made (commands.Judge options) spelled = one_judged options spelled
+  one_made (commands.Drill options) spelled =
+      one_in_place (strip_line options.count) (Judges plainly spelled) (one_judged plainly spelled)
 
   some_made : (command : Command) (bytes : List ℕ) (spelled : Input) → IsOnTexts command
       → AreRead (format_of command) bytes spelled → Comes (Makes command spelled)
@@ -317,19 +350,43 @@ module _ (have : HaveOneFile) (draw : HaveOneDrawings) (repair : HaveOneRepairs)
   some_made (Repair options) bytes spelled texts read = absurd texts
   some_made (commands.Fold options) bytes spelled texts read = absurd texts
   some_made (commands.Judge options) bytes spelled texts read = absurd texts
+  some_made (commands.Drill options) bytes spelled texts read = absurd texts
+
+  -- of the input, or of the text of a strip
+  one_with : HaveOneReading → (command : Command) (bytes : List ℕ) → IsOne (DoesWith command bytes)
+  one_with one command bytes =
+      one_then _ _ _ (reading_step one (format_of command) bytes) (λ spelled k. one_made command spelled)
+
+  one_done : HaveOneReading → (strip : Option ℕ) (command : Command) (bytes : List ℕ) → IsOne (DoesFrom strip command bytes)
+  one_done one None command bytes = one_with one command bytes
+  one_done one (Some count) command bytes =
+      one_then _ _ _ (strip_step count) (λ text h. one_with one command text)
+
+  some_with : HaveOneReading → (command : Command) (bytes : List ℕ) → IsOnTexts command → Comes (DoesWith command bytes)
+  some_with one command bytes texts =
+      some_then _ _ _ (reading_goes one (format_of command) bytes) (λ spelled k. some_made command bytes spelled texts k)
+
+  some_done : HaveOneReading → (strip : Option ℕ) (command : Command) (bytes : List ℕ) → IsOnTexts command → Comes (DoesFrom strip command bytes)
+  some_done one None command bytes texts = some_with one command bytes texts
+  some_done one (Some count) command bytes texts =
+      some_then _ _ _ (strip_goes count) (λ text h. some_with one command text texts)
 
 -- ---- words and bytes
 
 pub one_outcome : HaveOneReading → HaveOneFile → HaveOneDrawings → HaveOneRepairs → HaveOneFolds → (words : List (List ℕ)) (bytes : List ℕ) → HaveAtMostOneOutcome words bytes
-one_outcome one have draw repair fold words bytes = one_then _ _ _ (words_step words) (λ command h. one_then _ _ _ (reading_step one (format_of command) bytes) (λ spelled k. one_made have draw repair fold command spelled))
+one_outcome one have draw repair fold words bytes = one_then _ _ _ (words_step words) (λ command h. one_done have draw repair fold one (strip_of command) command bytes)
 
 pub some_outcome : HaveOneReading → HaveOneFile → HaveOneDrawings → HaveOneRepairs → HaveOneFolds → (words : List (List ℕ)) (bytes : List ℕ) → AskForTexts words → HaveOutcome words bytes
-some_outcome one have draw repair fold words bytes texts = some_then _ _ _ (words_go words) (λ command h. some_then _ _ _ (reading_goes one (format_of command) bytes) (λ spelled k. some_made have draw repair fold command bytes spelled (texts command h) k))
+some_outcome one have draw repair fold words bytes texts = some_then _ _ _ (words_go words) (λ command h. some_done have draw repair fold one (strip_of command) command bytes (texts command h))
 
 -- where the words take nothing, the bytes don't matter
 of_any : (words : List (List ℕ)) → TakeNothing words → (bytes other : List ℕ) (s : Status) (t : List ℕ) → IsOutcome words bytes s t → IsOutcome words other s t
 of_any words nothing bytes other s t (inl p) = inl p
-of_any words nothing bytes other s t (inr p) = absurd (no_command words p.0 nothing p.1)
+of_any words nothing bytes other s t (inr p) = inr (p.0, p.1, by (strip_of p.0) refl p.2)
+  where
+    by : (strip : Option ℕ) → strip_of p.0 ≡ strip → DoesFrom strip p.0 bytes s t → DoesFrom strip p.0 other s t
+    by None none done = absurd (no_command words p.0 none nothing p.1)
+    by (Some count) some done = done
 
 keeps_of_any : (words : List (List ℕ)) → TakeNothing words → (bytes other : List ℕ) (before after : Option (List ℕ)) (s : Status) → KeepsToOutcome words bytes before after s → KeepsToOutcome words other before after s
 keeps_of_any words nothing bytes other before after s h = (

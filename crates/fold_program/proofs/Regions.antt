@@ -48,11 +48,15 @@ use Rattle.fold_program.specs.declared.words.Format.TheVariants.{Fold, Cp}
 use Rattle.fold_program.specs.declared.words.RepairOptions.{RepairOptions}
 use Rattle.fold_program.proofs.Decide.{one_command, refused_words}
 
--- what doesn't stop gives a value
+-- what doesn't stop with this status gives a value
+pub went_past : {X : Type 0} (stops : Status → Type 0) (gives : X → Type 0) (next : X → Outcome) (status : Status) (text : List ℕ)
+    → ¬ stops status → Then stops gives next status text → (x : X) × gives x × next x status text
+went_past stops gives next status text never (inl h) = absurd (never h.0)
+went_past stops gives next status text never (inr h) = h
+
 pub went_on : {X : Type 0} (stops : Status → Type 0) (gives : X → Type 0) (next : X → Outcome) (text : List ℕ)
     → ¬ stops Done → Then stops gives next Done text → (x : X) × gives x × next x Done text
-went_on stops gives next text never (inl h) = absurd (never h.0)
-went_on stops gives next text never (inr h) = h
+went_on stops gives next text never h = went_past stops gives next Done text never h
 
 -- no fault ends as done
 pub input_goes : (fault : InputFault) → ¬ (Done ≡ of_input fault)

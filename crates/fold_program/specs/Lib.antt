@@ -10,8 +10,10 @@ pub mod Repairs
 pub mod FoldedFrames
 pub mod Folds
 pub mod Judges
+pub mod Drills
 pub mod Outcome
 pub mod Regions
 pub mod Headline
+pub mod Narrow
 pub mod Notes
 pub mod Outside

@@ -27,9 +27,10 @@ use Rattle.fold_keys.specs.Trees.{tree_of_file}
 use Rattle.fold_keys.specs.Writable.{file_of}
 use Rattle.fold_keys.specs.declared.value.Entry.{Entry}
 use Rattle.fold_keys.specs.declared.value.FoldFile.{FoldFile}
-use Rattle.fold_program.specs.Drawings.{AreSoundLines, DrawsBy}
+use Rattle.fold_program.specs.Drawings.{AreSoundLines, DrawsBy, NeverStops}
 pub use Rattle.fold_program.specs.Frames.{HasCounts, HasMisfit, HasNoFrame, HasShortTexts, HasUnevenLists, IsFileTree, IsReadFrom}
 use Rattle.fold_program.specs.Folds.{Folds}
+use Rattle.fold_program.specs.Drills.{Drills, IsStripText}
 use Rattle.fold_program.specs.Judges.{Judges}
 use Rattle.fold_program.specs.Repairs.{Repairs}
 use Rattle.fold_program.specs.Status.{IsAnswer, IsFailure, of_lines}
@@ -179,6 +180,7 @@ format_of (Convert (Drawing number)) = Cp
 format_of (Repair options) = options.from
 format_of (commands.Fold options) = Fold
 format_of (commands.Judge options) = Fold
+format_of (commands.Drill options) = Fold
 
 -- what a command makes of what it read
 abbrev pub Makes : Command → Input → Outcome
@@ -187,11 +189,29 @@ Makes (Convert options) = Converts options
 Makes (Repair options) = Repairs options
 Makes (commands.Fold options) = Folds options
 Makes (commands.Judge options) = Judges options
+Makes (commands.Drill options) = Drills options
 
 -- what a command makes of the bytes: they aren't read, or it makes something of what they spell
-abbrev pub Does : Command → List ℕ → Outcome
-Does command bytes =
+abbrev pub DoesWith : Command → List ℕ → Outcome
+DoesWith command bytes =
     Then (AreUnread (format_of command) bytes) (AreRead (format_of command) bytes) (Makes command)
+
+-- the squares of the strip whose text a command reads in place of the input, if it does
+abbrev pub strip_of : Command → Option ℕ
+strip_of (Show options) = None
+strip_of (Convert options) = None
+strip_of (Repair options) = None
+strip_of (commands.Fold options) = None
+strip_of (commands.Judge options) = None
+strip_of (commands.Drill options) = Some options.count
+
+-- what a command makes of the bytes, or of the text of a strip
+abbrev pub DoesFrom : Option ℕ → Command → List ℕ → Outcome
+DoesFrom None command bytes = DoesWith command bytes
+DoesFrom (Some count) command bytes = Then NeverStops (IsStripText count) (DoesWith command)
+
+abbrev pub Does : Command → List ℕ → Outcome
+Does command bytes = DoesFrom (strip_of command) command bytes
 
 -- the outcome of words and bytes: the words are refused, or they are a command's, which does
 -- something

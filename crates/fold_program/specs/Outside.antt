@@ -27,7 +27,7 @@ TakesAll _ = Unit {0}
 -- only from outside
 pub record TakesFrom {S : Type 0} (left : S → Option (List ℕ)) (faults : S → ℕ)
     (words : List (List ℕ)) (old new : S) (status : Status) : Type 0 where
-  pub taken : (bytes : List ℕ) × Gives (left old) (left new) bytes × Takes status (length bytes)
+  pub taken : (bytes : List ℕ) × Gives (left old) (left new) bytes × (TakeNothing words ⊎ Takes status (length bytes))
   pub all : TakesAll status → TakeNothing words ⊎ IsSpent (left new)
   pub nothing : TakeNothing words → (new ≡ old) × (status ≢ Read)
   pub failed : status ≡ Read → Rose (faults old) (faults new)

@@ -1,5 +1,5 @@
 -- the words of the command line
-use Rattle.std.specs.Prelude.{◌≡◌, ◌≢◌, ◌⊎◌, ◌++◌, ◌∷◌, ℕ, List, [], map, fold, Option, Some}
+use Rattle.std.specs.Prelude.{◌≡◌, ◌≢◌, ◌≤◌, ◌⊎◌, ◌++◌, ◌∷◌, ℕ, List, [], map, fold, Option, Some}
 use Rattle.std.specs.Prelude.{None, String, string_bytes, codes, IsTrue, true, if◌then◌else◌}
 use Rattle.std.specs.List.{find, list_any}
 use Rattle.std.specs.Str.{bytes_eq}
@@ -22,6 +22,7 @@ use Rattle.fold_program.specs.declared.words.Command.TheVariants.{Show, Convert,
 use Rattle.fold_program.specs.declared.words.Command.TheVariants as commands
 use Rattle.fold_program.specs.declared.words.ConvertOptions.{ConvertOptions}
 use Rattle.fold_program.specs.declared.words.ConvertOptions.TheVariants.{Frame, Lines, Drawing}
+use Rattle.fold_program.specs.declared.words.DrillOptions.{DrillOptions}
 use Rattle.fold_program.specs.declared.words.FoldOptions.{FoldOptions}
 use Rattle.fold_program.specs.declared.words.JudgeOptions.{JudgeOptions}
 use Rattle.fold_program.specs.declared.words.RepairOptions.{RepairOptions}
@@ -57,6 +58,7 @@ table =
     } ∷
     record { name = codes "fold"; options = codes "frame" ∷ codes "number" ∷ [] } ∷
     record { name = codes "judge"; options = codes "frame" ∷ codes "number" ∷ codes "orders" ∷ [] } ∷
+    record { name = codes "drill"; options = codes "count" ∷ [] } ∷
     []
 
 -- the text that names a format
@@ -70,6 +72,10 @@ NamesFormat text format = text ≡ name_of format
 -- the text spells this number, in digits and in one way
 abbrev pub NamesNumber : Text → ℕ → Type 0
 NamesNumber text number = id_in_text text ≡ Some number
+
+-- the text spells a number of squares
+abbrev pub NamesCount : Text → ℕ → Type 0
+NamesCount text count = NamesNumber text count × (1 ≤ count) × (count ≤ 500)
 
 -- the text that names what becomes of segments with the letter F
 abbrev pub name_of_flat : Flat → Text
@@ -136,6 +142,10 @@ pub record MeanJudge (said : Text → Option Text) (options : JudgeOptions) : Ty
   pub number : Says NamesChoice Exact (said (codes "number")) options.number
   pub orders : Says NamesNumber options.frame (said (codes "orders")) options.orders
 
+-- what is said of the option means these
+abbrev pub MeanDrill : (Text → Option Text) → DrillOptions → Type 0
+MeanDrill said options = Says NamesCount 100 (said (codes "count")) options.count
+
 -- a command's name, and what is said of each option, mean this command
 abbrev pub Mean : Text → (Text → Option Text) → Command → Type 0
 Mean name said (Show options) = (name ≡ codes "show") × MeanShow said options
@@ -143,6 +153,7 @@ Mean name said (Convert options) = (name ≡ codes "convert") × MeanConvert sai
 Mean name said (Repair options) = (name ≡ codes "repair") × MeanRepair said options
 Mean name said (commands.Fold options) = (name ≡ codes "fold") × MeanFold said options
 Mean name said (commands.Judge options) = (name ≡ codes "judge") × MeanJudge said options
+Mean name said (commands.Drill options) = (name ≡ codes "drill") × MeanDrill said options
 
 -- ---- the words as `clap` takes them
 
@@ -219,6 +230,7 @@ Reads (Convert options) = Unit {0}
 Reads (Repair options) = Unit {0}
 Reads (commands.Fold options) = Unit {0}
 Reads (commands.Judge options) = Unit {0}
+Reads (commands.Drill options) = ⊥
 
 -- the command works on texts alone: that it has an outcome is shown
 abbrev pub IsOnTexts : Command → Type 0
@@ -227,6 +239,7 @@ IsOnTexts (Convert options) = Unit {0}
 IsOnTexts (Repair options) = ⊥
 IsOnTexts (commands.Fold options) = ⊥
 IsOnTexts (commands.Judge options) = ⊥
+IsOnTexts (commands.Drill options) = ⊥
 
 -- nothing is taken from the source: the words are refused, or their command reads no input
 abbrev pub TakeNothing : List Text → Type 0

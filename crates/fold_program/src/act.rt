@@ -3,6 +3,7 @@ ghost use Rattle.fold_program.specs.Steps.{Follows, Steps};
 ghost use Rattle.fold_program.specs.Outcome.{HasFormat, HasMisfit, IsReadFrom, IsSound, IsSoundTree, Makes, Shows, ShowsTree, format_of};
 
 use crate::convert::convert;
+use crate::drill::drill;
 use crate::fold::fold;
 use crate::input::Input;
 use crate::judge::judge;
@@ -27,6 +28,7 @@ pub fn act(alloc: Global, command: &Command, input: Input) -> Result<Text, Statu
         Command::Repair(options) => repair(alloc, options, input),
         Command::Fold(options) => fold(alloc, options, input),
         Command::Judge(options) => judge(alloc, options, input),
+        Command::Drill(options) => drill(alloc, options, input),
     }
 }
 

@@ -6,7 +6,7 @@ ghost use Rattle.number_rules.specs.Kept.{KeepsItsRow};
 ghost use Rattle.fold_program.specs.Drawings.{AreSoundLines, DrawsBy, DrawsLines, LackEnds};
 ghost use Rattle.fold_program.specs.Steps.{Follows, Steps};
 
-use crate::drawing::write_drawing;
+use crate::drawing::write_pattern;
 use crate::number_option::NumberChoice;
 use crate::status::Status;
 use cp_lines::CpLine;
@@ -60,7 +60,7 @@ fn draw_by<N: Exact, F: Fn(Decimal) -> Result<N, Unread>>(
     ensures { Follows (DrawsLines N.ROOT N.parts rule.now.row lines) result }
 {
     let ends = ends_by(alloc, lines, rule)?;
-    write_drawing(alloc, "creasePattern", &ends, None, None)
+    write_pattern(alloc, &ends)
 }
 
 /// The vertices and edges of the lines, which aren't kept, or the first coordinate that isn't read.

@@ -1,5 +1,5 @@
 // A drawing as a text.
-ghost use Rattle.std.specs.Prelude.{◌≡◌, ◌∷◌, ◌++◌, [], IfOk, length};
+ghost use Rattle.std.specs.Prelude.{◌≡◌, ◌∷◌, ◌++◌, [], IfOk, None, codes, length};
 ghost use Rattle.std.specs.List.{AllByRecursion};
 ghost use Rattle.std.specs.Option.{option_copied};
 ghost use Rattle.json_tree.specs.PrintedForm.{printed_form};
@@ -13,7 +13,7 @@ ghost use Rattle.fold_program.specs.Repairs.{WritesEdges};
 
 use crate::status::Status;
 use cp_lines::print_cp;
-use crease_input::{drawing_file, drawing_lines};
+use crease_input::{drawing_file, drawing_lines, pattern_text};
 use exact_number::Exact;
 use fold_base::{List, Text};
 use fold_keys::{FaceOrder, FoldFile, to_json};
@@ -35,6 +35,14 @@ pub fn write_drawing<N: Exact>(
 {
     let file = drawing_file(alloc, class, ends, faces, orders)?;
     Ok(line_of_file(alloc, &file)?)
+}
+
+/// The file of a crease pattern without faces, in a line.
+pub fn write_pattern<N: Exact>(alloc: Global, ends: &Ends<N>) -> Result<Text, Status>
+    requires { IsFileable N.parts ends.now None None }
+    ensures { Follows (WritesFile N.ROOT N.parts (codes "creasePattern") ends.now None None) result }
+{
+    Ok(pattern_text(alloc, ends)?)
 }
 
 /// The printed form of a file, in a line.

@@ -1,35 +1,12 @@
 // Lines as FOLD files by example, and long ways of frames.
-use crate::run::run;
 use crate::status::{NumberCause, ShapeCause, Status};
+use crate::trial::{HEAD, answer};
 use crease_input::Axis;
-use fold_base::{List, MemorySink, MemorySource};
 use number_rules::Unread;
-use std::alloc::{AllocError, Global};
+use std::alloc::Global;
 use std::fmt::Write;
 use std::process::Abort;
 use std::test::Fail;
-
-/// The head of each file that is written.
-const HEAD: &str =
-    r#"{"file_spec":1.2,"file_creator":"fold_program","frame_classes":["creasePattern"],"#;
-
-/// Runs the words on the input, and tells what became of it.
-fn answer(
-    alloc: Global,
-    words: &[&str],
-    input: &str,
-) -> Result<(Status, MemorySink, MemorySink), AllocError> {
-    let mut strings = Vec::new(alloc);
-    for word in words {
-        strings.push(String::from_str(alloc, word)?)?;
-    }
-    let input = List::from_slice(alloc, input.as_bytes())?;
-    let mut source = MemorySource::new(input, 4096, List::new(alloc));
-    let mut sink = MemorySink::new(alloc, 4096, List::new(alloc), 1000)?;
-    let mut notes = MemorySink::new(alloc, 100, List::new(alloc), 100)?;
-    let status = run(alloc, &strings, &mut source, &mut sink, &mut notes);
-    Ok((status, sink, notes))
-}
 
 /// Words, lines, and what is written behind the head of the file.
 const DRAWN: &[(&[&str], &str, &str)] = &[
@@ -87,11 +64,11 @@ const DRAWN: &[(&[&str], &str, &str)] = &[
 fn draws_lines(rt: HostRuntime) -> Result<(), Fail> {
     let alloc = rt.alloc();
     for (words, input, rest) in DRAWN {
-        let (status, sink, notes) = answer(alloc, words, input)?;
-        assert_eq!(rt; status, Status::Done, "{input}");
+        let told = answer(alloc, words, input, 1000)?;
+        assert_eq!(rt; told.status, Status::Done, "{input}");
         let output = format!(in alloc; "{HEAD}{rest}\n")?;
-        assert_eq!(rt; sink.bytes(), output.as_bytes(), "{input}");
-        assert_eq!(rt; notes.bytes(), b"".as_slice(), "{input}");
+        assert_eq!(rt; told.sink.bytes(), output.as_bytes(), "{input}");
+        assert_eq!(rt; told.notes.bytes(), b"".as_slice(), "{input}");
     }
     Ok(())
 }
@@ -148,16 +125,16 @@ fn names_the_first_unread(rt: HostRuntime) -> Result<(), Fail> {
     let alloc = rt.alloc();
     for (number, input, place, line) in UNREAD {
         let (vertex, axis, cause) = *place;
-        let (status, sink, notes) = answer(alloc, &["convert", "--from=cp", number], input)?;
-        assert_eq!(rt; status.code(), 5, "{input}");
+        let told = answer(alloc, &["convert", "--from=cp", number], input, 1000)?;
+        assert_eq!(rt; told.status.code(), 5, "{input}");
         let unread = NumberCause::Unread {
             vertex,
             axis,
             cause,
         };
-        assert_eq!(rt; status, Status::Number(unread), "{input}");
-        assert_eq!(rt; sink.bytes(), b"".as_slice(), "{input}");
-        assert_eq!(rt; notes.bytes(), line.as_bytes(), "{input}");
+        assert_eq!(rt; told.status, Status::Number(unread), "{input}");
+        assert_eq!(rt; told.sink.bytes(), b"".as_slice(), "{input}");
+        assert_eq!(rt; told.notes.bytes(), line.as_bytes(), "{input}");
     }
     Ok(())
 }
@@ -182,16 +159,16 @@ fn follows_long_ways(rt: HostRuntime) -> Result<(), Fail> {
     let alloc = rt.alloc();
     let point = b"{\"vertices_coords\":[[0,0]]}\n".as_slice();
     let way = way_of_frames(alloc, 10_000, 0)?;
-    let (status, sink, _) = answer(alloc, &["convert", "--frame=10000"], &way)?;
-    assert_eq!(rt; status, Status::Done);
-    assert_eq!(rt; sink.bytes(), point);
+    let told = answer(alloc, &["convert", "--frame=10000"], &way, 1000)?;
+    assert_eq!(rt; told.status, Status::Done);
+    assert_eq!(rt; told.sink.bytes(), point);
     let round = way_of_frames(alloc, 10_000, 10_000)?;
-    let (status, sink, _) = answer(alloc, &["convert", "--frame=10000"], &round)?;
+    let told = answer(alloc, &["convert", "--frame=10000"], &round, 1000)?;
     let met_again = ShapeCause::ParentLoop { frame: 10_000 };
-    assert_eq!(rt; status, Status::Shape(met_again));
-    assert_eq!(rt; sink.bytes(), b"".as_slice());
-    let (status, sink, _) = answer(alloc, &["convert", "--frame=0"], &round)?;
-    assert_eq!(rt; status, Status::Done);
-    assert_eq!(rt; sink.bytes(), point);
+    assert_eq!(rt; told.status, Status::Shape(met_again));
+    assert_eq!(rt; told.sink.bytes(), b"".as_slice());
+    let told = answer(alloc, &["convert", "--frame=0"], &round, 1000)?;
+    assert_eq!(rt; told.status, Status::Done);
+    assert_eq!(rt; told.sink.bytes(), point);
     Ok(())
 }

@@ -1,7 +1,5 @@
 // Folded forms and verdicts by example.
-use crate::run::run;
-use fold_base::{List, MemorySink, MemorySource};
-use std::alloc::{AllocError, Global};
+use crate::trial::answer;
 use std::process::Abort;
 use std::test::Fail;
 
@@ -112,6 +110,42 @@ const ANSWERED: &[(&[&str], &str, u8, &str)] = &[
     (
         &["judge"],
         r#"{"file_spec":1.2,"file_creator":"fold_program","frame_classes":["creasePattern"],"vertices_coords":[[-200,-200],[-200,82.842712475],[-200,200],[-82.842712475,82.842712475],[82.842712475,-200],[82.842712475,-82.842712475],[200,-200],[200,200]],"fx:vertices_coords":[["-200,0,1","-200,0,1"],["-200,0,1","-200,200,1"],["-200,0,1","200,0,1"],["200,-200,1","-200,200,1"],["-200,200,1","-200,0,1"],["-200,200,1","200,-200,1"],["200,0,1","-200,0,1"],["200,0,1","200,0,1"]],"edges_vertices":[[0,1],[0,3],[0,4],[0,5],[1,2],[1,3],[2,3],[2,7],[3,7],[4,5],[4,6],[5,6],[5,7],[6,7]],"edges_assignment":["B","V","B","V","B","M","V","B","V","M","B","V","V","B"],"faces_vertices":[[0,3,1],[0,4,5],[0,5,7,3],[1,3,2],[2,3,7],[4,6,5],[5,6,7]],"faceOrders":[[1,2,1],[5,2,1],[6,2,1],[5,1,-1],[6,1,-1],[6,5,1],[0,2,1],[3,2,1],[4,2,1],[3,0,-1],[4,0,-1],[4,3,1]]}"#,
+        0,
+        r#"yes"#,
+    ),
+    (
+        &["judge"],
+        r#"{"vertices_coords":[[0,0],[1,0],[2,0],[2,1],[2,2],[0,2],[0,1],[1,1]],"edges_vertices":[[0,1],[1,2],[2,3],[3,4],[4,5],[5,6],[6,0],[7,6],[7,3],[7,1]],"edges_assignment":["B","B","B","B","B","B","B","V","V","V"],"faces_vertices":[[6,7,3,4,5],[0,1,7,6],[1,2,3,7]]}"#,
+        1,
+        r#"no: unclosed 9"#,
+    ),
+    (
+        &["fold"],
+        r#"{"vertices_coords":[[0,0],[2,0],[2,2],[1,2],[0,2],[1,1]],"edges_vertices":[[0,1],[1,2],[2,3],[3,4],[4,0],[5,0],[5,1],[5,2],[5,3]],"edges_assignment":["B","B","B","B","B","V","V","V","C"],"faces_vertices":[[0,1,5],[1,2,5],[2,3,5],[3,4,0,5]]}"#,
+        0,
+        r#"{"file_spec":1.2,"file_creator":"fold_program","frame_classes":["foldedForm"],"vertices_coords":[[0,0],[2,0],[0,0],[1,0],[2,1],[2,0],[1,1]],"edges_vertices":[[0,1],[1,2],[2,3],[4,5],[5,0],[6,0],[6,1],[6,2],[6,3],[6,4]],"edges_assignment":["B","B","B","B","B","V","V","V","C","C"],"faces_vertices":[[0,1,6],[1,2,6],[2,3,6],[4,5,0,6]]}"#,
+    ),
+    (
+        &["fold"],
+        r#"{"vertices_coords":[[0,0],[1,0],[2,0],[2,1],[2,2],[1,2],[0,2],[0,1],[1,1]],"edges_vertices":[[0,1],[1,2],[2,3],[3,4],[4,5],[5,6],[6,7],[7,0],[7,8],[8,3],[8,5],[1,8]],"edges_assignment":["B","B","B","B","B","B","B","B","V","F","F","C"],"faces_vertices":[[7,8,5,6],[8,3,4,5],[1,2,3,8],[0,1,8,7]],"faceOrders":[[3,0,1]]}"#,
+        0,
+        r#"{"file_spec":1.2,"file_creator":"fold_program","frame_classes":["foldedForm"],"vertices_coords":[[0,2],[1,0],[1,2],[2,0],[2,1],[2,2],[1,2],[0,2],[0,1],[1,1]],"edges_vertices":[[0,2],[1,3],[3,4],[4,5],[5,6],[6,7],[7,8],[8,0],[8,9],[9,4],[9,6],[1,9],[2,9]],"edges_assignment":["B","B","B","B","B","B","B","B","V","F","F","C","C"],"faces_vertices":[[8,9,6,7],[9,4,5,6],[1,3,4,9],[0,2,9,8]],"faceOrders":[[3,0,1]]}"#,
+    ),
+    (
+        &["judge"],
+        r#"{"vertices_coords":[[0,0],[1,0],[2,0],[2,1],[2,2],[1,2],[0,2],[0,1],[1,1]],"edges_vertices":[[0,1],[1,2],[2,3],[3,4],[4,5],[5,6],[6,7],[7,0],[7,8],[8,3],[8,5],[1,8]],"edges_assignment":["B","B","B","B","B","B","B","B","V","F","F","C"],"faces_vertices":[[7,8,5,6],[8,3,4,5],[1,2,3,8],[0,1,8,7]],"faceOrders":[[3,0,1]]}"#,
+        0,
+        r#"yes"#,
+    ),
+    (
+        &["fold", "--number=root3:1"],
+        r#"{"vertices_coords":[[0,0],[1,0],[2,0],[1,1.73205080756888]],"edges_vertices":[[0,1],[1,2],[2,3],[3,0],[1,3]],"edges_assignment":["B","B","B","B","V"],"faces_vertices":[[0,1,3],[1,2,3]],"faceOrders":[[1,0,1]]}"#,
+        0,
+        r#"{"file_spec":1.2,"file_creator":"fold_program","frame_classes":["foldedForm"],"vertices_coords":[[0,0],[1,0],[0,0],[1,1.732050808]],"fx:vertices_coords":[["0,0,1,3","0,0,1,3"],["1,0,1,3","0,0,1,3"],["0,0,1,3","0,0,1,3"],["1,0,1,3","0,1,1,3"]],"edges_vertices":[[0,1],[1,2],[2,3],[3,0],[1,3]],"edges_assignment":["B","B","B","B","V"],"faces_vertices":[[0,1,3],[1,2,3]],"faceOrders":[[1,0,1]]}"#,
+    ),
+    (
+        &["judge", "--number=root3:1"],
+        r#"{"vertices_coords":[[0,0],[1,0],[2,0],[1,1.73205080756888]],"edges_vertices":[[0,1],[1,2],[2,3],[3,0],[1,3]],"edges_assignment":["B","B","B","B","V"],"faces_vertices":[[0,1,3],[1,2,3]],"faceOrders":[[1,0,1]]}"#,
         0,
         r#"yes"#,
     ),
@@ -243,6 +277,18 @@ const REFUSED: &[(&[&str], &str, u8, &str)] = &[
         4,
         "empty sheet",
     ),
+    (
+        &["fold"],
+        r#"{"vertices_coords":[[0,0],[1,0],[1,1],[0,1]],"edges_vertices":[[0,1],[1,2],[2,3],[3,0],[0,2],[1,1]],"edges_assignment":["B","B","B","B","V","V"],"faces_vertices":[[0,1,2],[0,2,3]],"faceOrders":[[1,0,1]]}"#,
+        4,
+        "not plane 5 5",
+    ),
+    (
+        &["judge", "--number=exact"],
+        r#"{"vertices_coords":[[0,0],[1,0],[2,0],[1,1.73205080756888]],"edges_vertices":[[0,1],[1,2],[2,3],[3,0],[1,3]],"edges_assignment":["B","B","B","B","V"],"faces_vertices":[[0,1,3],[1,2,3]],"faceOrders":[[1,0,1]]}"#,
+        5,
+        "too wide 3 input",
+    ),
     (&["judge", "--frame=01"], SQUARE, 6, "words value"),
     (&["judge", "--flat=drop"], SQUARE, 6, "words refused"),
     (
@@ -253,36 +299,15 @@ const REFUSED: &[(&[&str], &str, u8, &str)] = &[
     ),
 ];
 
-/// What a run writes, and what it says of its status.
-#[derive(Drop)]
-struct Told {
-    code: u8,
-    sink: MemorySink,
-    notes: MemorySink,
-}
-
-fn answer(alloc: Global, words: &[&str], input: &[u8]) -> Result<Told, AllocError> {
-    let mut given = Vec::new(alloc);
-    for word in words {
-        given.push(String::from_str(alloc, word)?)?;
-    }
-    let mut source = MemorySource::new(List::from_slice(alloc, input)?, 4096, List::new(alloc));
-    let mut sink = MemorySink::new(alloc, 4096, List::new(alloc), 4096)?;
-    let mut notes = MemorySink::new(alloc, 100, List::new(alloc), 100)?;
-    let status = run(alloc, &given, &mut source, &mut sink, &mut notes);
-    let code = status.code();
-    Ok(Told { code, sink, notes })
-}
-
 #[test]
 fn answers(rt: HostRuntime) -> Result<(), Fail> {
     let alloc = rt.alloc();
     for (words, input, code, line) in ANSWERED {
-        let told = answer(alloc, words, input.as_bytes())?;
+        let told = answer(alloc, words, input, 4096)?;
         let due = format!(in alloc; "{line}\n")?;
         assert_eq!(rt; told.sink.bytes(), due.as_bytes());
         assert_eq!(rt; told.notes.bytes().len(), 0);
-        assert_eq!(rt; told.code, *code);
+        assert_eq!(rt; told.status.code(), *code);
     }
     Ok(())
 }
@@ -291,11 +316,11 @@ fn answers(rt: HostRuntime) -> Result<(), Fail> {
 fn refuses(rt: HostRuntime) -> Result<(), Fail> {
     let alloc = rt.alloc();
     for (words, input, code, cause) in REFUSED {
-        let told = answer(alloc, words, input.as_bytes())?;
+        let told = answer(alloc, words, input, 4096)?;
         let due = format!(in alloc; "fold_program: {cause}\n")?;
         assert_eq!(rt; told.notes.bytes(), due.as_bytes());
         assert_eq!(rt; told.sink.bytes().len(), 0);
-        assert_eq!(rt; told.code, *code);
+        assert_eq!(rt; told.status.code(), *code);
     }
     Ok(())
 }

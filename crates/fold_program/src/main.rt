@@ -4,7 +4,8 @@
 //! printed form; `fold_program show --from=cp` does so with CP text. `fold_program convert --frame=2`
 //! writes frame 2 of a FOLD file, with all that it inherits, as a file of its own, and
 //! `fold_program convert --from=cp` CP text as a FOLD file. `fold_program repair` cuts the segments of
-//! either into vertices and pieces, and finds the faces.
+//! either into vertices and pieces, and finds the faces. `fold_program drill` judges a strip that it
+//! makes itself.
 #![tactic(auto)]
 
 mod act;
@@ -14,6 +15,7 @@ mod convert;
 mod denominator;
 mod draw;
 mod drawing;
+mod drill;
 mod fold;
 mod folded;
 mod given;
@@ -26,6 +28,7 @@ mod repair;
 mod run;
 mod status;
 mod words;
+mod writable;
 
 use arguments::words_after_name;
 use fold_base::{ReadSource, WriteSink};
@@ -36,11 +39,19 @@ use std::process::ExitCode;
 #[cfg(test)]
 mod drawing_tests;
 #[cfg(test)]
+mod drill_tests;
+#[cfg(test)]
 mod fold_tests;
+#[cfg(test)]
+mod hostile_tests;
+#[cfg(test)]
+mod limits_tests;
 #[cfg(test)]
 mod repair_tests;
 #[cfg(test)]
 mod tests;
+#[cfg(test)]
+mod trial;
 
 fn main(rt: HostRuntime) -> ExitCode {
     let alloc = rt.alloc();

@@ -1,13 +1,7 @@
 // Repaired drawings by example.
-use crate::run::run;
-use fold_base::{List, MemorySink, MemorySource};
-use std::alloc::{AllocError, Global};
+use crate::trial::{HEAD, REPAIR, answer};
 use std::process::Abort;
 use std::test::Fail;
-
-/// The head of each file that is written.
-const HEAD: &str =
-    r#"{"file_spec":1.2,"file_creator":"fold_program","frame_classes":["creasePattern"],"#;
 
 const DIAGONALS: &str = "1 0 0 1 0\n1 1 0 1 1\n1 1 1 0 1\n1 0 1 0 0\n2 0 0 1 1\n3 0 1 1 0\n";
 
@@ -23,8 +17,6 @@ const FISH: &str =
     3 -200.0 200.0 -82.84271247461901 82.84271247461901\n\
     2 82.84271247461901 -200.0 82.84271247461901 -82.84271247461901\n\
     2 -200.0 82.84271247461901 -82.84271247461901 82.84271247461901\n4 -200.0 -200.0 200.0 200.0\n";
-
-const REPAIR: &[&str] = &["repair", "--from=cp"];
 
 /// Words, input, and what is written behind the head of the file.
 const DRAWN: &[(&[&str], &str, &str)] = &[
@@ -120,36 +112,15 @@ const REFUSED: &[(&[&str], &str, u8, &str)] = &[
     (&["repair", "--number=grid:0"], "", 6, "words value"),
 ];
 
-/// What a run writes, and what it says of its status.
-#[derive(Drop)]
-struct Repaired {
-    code: u8,
-    sink: MemorySink,
-    notes: MemorySink,
-}
-
-fn answer(alloc: Global, words: &[&str], input: &[u8], room: u32) -> Result<Repaired, AllocError> {
-    let mut given = Vec::new(alloc);
-    for word in words {
-        given.push(String::from_str(alloc, word)?)?;
-    }
-    let mut source = MemorySource::new(List::from_slice(alloc, input)?, 4096, List::new(alloc));
-    let mut sink = MemorySink::new(alloc, 4096, List::new(alloc), room)?;
-    let mut notes = MemorySink::new(alloc, 100, List::new(alloc), 100)?;
-    let status = run(alloc, &given, &mut source, &mut sink, &mut notes);
-    let code = status.code();
-    Ok(Repaired { code, sink, notes })
-}
-
 #[test]
 fn draws(rt: HostRuntime) -> Result<(), Fail> {
     let alloc = rt.alloc();
     for (words, input, rest) in DRAWN {
-        let told = answer(alloc, words, input.as_bytes(), 4096)?;
+        let told = answer(alloc, words, input, 4096)?;
         let due = format!(in alloc; "{HEAD}{rest}\n")?;
         assert_eq!(rt; told.sink.bytes(), due.as_bytes());
         assert_eq!(rt; told.notes.bytes().len(), 0);
-        assert_eq!(rt; told.code, 0);
+        assert_eq!(rt; told.status.code(), 0);
     }
     Ok(())
 }
@@ -158,11 +129,11 @@ fn draws(rt: HostRuntime) -> Result<(), Fail> {
 fn refuses(rt: HostRuntime) -> Result<(), Fail> {
     let alloc = rt.alloc();
     for (words, input, code, cause) in REFUSED {
-        let told = answer(alloc, words, input.as_bytes(), 4096)?;
+        let told = answer(alloc, words, input, 4096)?;
         let due = format!(in alloc; "fold_program: {cause}\n")?;
         assert_eq!(rt; told.notes.bytes(), due.as_bytes());
         assert_eq!(rt; told.sink.bytes().len(), 0);
-        assert_eq!(rt; told.code, *code);
+        assert_eq!(rt; told.status.code(), *code);
     }
     Ok(())
 }
@@ -172,12 +143,12 @@ fn writes_lines(rt: HostRuntime) -> Result<(), Fail> {
     let told = answer(
         rt.alloc(),
         &["repair", "--to=cp", "--from=cp"],
-        DIAGONALS.as_bytes(),
+        DIAGONALS,
         4096,
     )?;
     let due =
         "1 0 0 0 1\n2 0 0 0.5 0.5\n1 0 0 1 0\n3 0 1 0.5 0.5\n1 0 1 1 1\n3 0.5 0.5 1 0\n2 0.5 0.5 1 1\n1 1 0 1 1\n";
     assert_eq!(rt; told.sink.bytes(), due.as_bytes());
-    assert_eq!(rt; told.code, 0);
+    assert_eq!(rt; told.status.code(), 0);
     Ok(())
 }

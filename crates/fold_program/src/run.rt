@@ -1,24 +1,27 @@
 // The top call.
-ghost use Rattle.std.specs.Prelude.{◌≡◌, ◌≢◌, ◌⊎◌, List, ℕ, Option, IfErr, IfOk, string_bytes};
-ghost use Rattle.fold_base.specs.Outside.{Rose};
+ghost use Rattle.std.specs.Prelude.{◌≡◌, ◌≢◌, ◌⊎◌, List, ℕ, Option, Err, IfErr, IfOk, length, string_bytes, Some, [], ◌≤◌};
+ghost use Rattle.fold_base.specs.Outside.{Gives, IsSpent, Rose};
 ghost use Rattle.fold_program.specs.Status.{status_of};
 ghost use Rattle.fold_program.specs.Steps.{Ends};
 ghost use Rattle.fold_program.specs.Words.{texts, AreWordsOf, AreRefused, ArePlainWordsOf};
 ghost use Rattle.fold_program.specs.Notes.{IsNoted};
-ghost use Rattle.fold_program.specs.Outcome.{IsOutcome, AreInput, AreLeft, IsOutcomeWritten, KeepsToOutcome, AskForTexts, HasOutcome, HaveOutcome, HaveAtMostOneOutcome};
+ghost use Rattle.fold_program.specs.Outcome.{DoesFrom, DoesWith, IsOutcome, AreInput, AreLeft, IsOutcomeWritten, KeepsToOutcome, AskForTexts, HasOutcome, HaveOutcome, HaveAtMostOneOutcome};
 ghost use Rattle.fold_program.specs.Crossings.{no_line};
-ghost use Rattle.fold_program.specs.Outside.{PutsInto, PutsText, TakesFrom};
+ghost use Rattle.fold_program.specs.Outside.{PutsInto, PutsText, Takes, TakesAll, TakesFrom};
 ghost use Rattle.fold_base.specs.declared.outside.TheConstants.{MOST_BYTES};
 ghost use Rattle.fold_program.specs.Headline.{HaveTrueVerdicts, JudgesFoldable};
+ghost use Rattle.fold_program.specs.Narrow.{RefusesNoNarrow};
 ghost use Rattle.fold_program.specs.Regions.{WritesRegions};
 
 use crate::act::act;
+use crate::drill::strip_text;
 use crate::folded::{one_fold, true_verdicts};
 use crate::input::read_input;
 use crate::notes::note;
 use crate::repair::one_repair;
 use crate::status::{NoCause, Status};
 use crate::words::{Command, read_words};
+use crate::writable::narrow_drawings_can_be_written;
 use crease_input::one_file;
 use fold_base::{CalmSink, CalmSource, List, Sink, Source, Text, write_all_bytes};
 use fold_frames::{one_effective_frame, trees_have_files};
@@ -27,6 +30,9 @@ use json_tree::spelled_trees_are_proper;
 use rational::Rational;
 use root_two::{RootThree, RootTwo};
 use std::alloc::{AllocError, Global};
+
+/// As many bytes of its own text are read at once.
+const PIECE: u32 = 65_536;
 
 /// Does what the words say with the bytes of the source.
 ///
@@ -58,6 +64,10 @@ pub fn run<S: Source, T: Sink, E: Sink>(
     ensures regions { WritesRegions (texts words.now)
         (T.written sink.old) (T.written sink.new) result }
 
+    // `repair` never says that a vertex of the drawing is too wide to write where it computes over the
+    // rationals, or where the coordinates that it read are narrow.
+    ensures narrow { RefusesNoNarrow (texts words.now) (S.left source.old) result }
+
     // `judge` says yes to FOLD texts whose chosen frame is a sheet that folds flat, where the orders rank
     // each two faces that overlap, each stack has one order, nothing crosses a crease or a join at a
     // seam, and the letters are true. It says so to nothing else, and to each of these where nothing
@@ -73,6 +83,7 @@ pub fn run<S: Source, T: Sink, E: Sink>(
     ensures notes { IsNoted E.written E.faults notes.old notes.new result }
 {
     one_outcome();
+    narrow_drawings_can_be_written();
     yes_is_true();
     let status = perform(alloc, words, source, sink);
     note(alloc, &status, notes);
@@ -199,6 +210,35 @@ fn prepare<S: Source>(alloc: Global, words: &[String], source: &mut S) -> Result
     ensures source { TakesFrom S.left S.faults (texts words.now) source.old source.new (status_of result) }
 {
     let command = read_words(alloc, words)?;
+    match command.strip() {
+        None => answer(alloc, &command, source),
+        Some(count) => answer_on_strip(alloc, &command, count),
+    }
+}
+
+/// What the command makes of the text of a strip.
+fn answer_on_strip(alloc: Global, command: &Command, count: u32) -> Result<Text, Status>
+    requires some { 1 ≤ count }
+    requires few { count ≤ 500 }
+    ensures outcome { Ends (DoesFrom (Some count) command.now []) result }
+    ensures unwritten { IfErr result (λ status. status ≢ Status.Write) }
+    ensures unread { IfErr result (λ status. status ≢ Status.Read) }
+{
+    let text = strip_text(alloc, count)?;
+    let bytes = List::from_slice(alloc, text.bytes())?;
+    answer(alloc, command, &mut CalmSource::new(bytes, PIECE))
+}
+
+/// What the command makes of the bytes that a source has left.
+fn answer<S: Source>(alloc: Global, command: &Command, source: &mut S) -> Result<Text, Status>
+    ensures outcome { (bytes : List ℕ) × AreLeft (S.left source.old) bytes
+        × Ends (DoesWith command.now bytes) result }
+    ensures unwritten { IfErr result (λ status. status ≢ Status.Write) }
+    ensures read { result ≡ Err Status.Read → Rose (S.faults source.old) (S.faults source.new) }
+    ensures taken { (bytes : List ℕ) × Gives (S.left source.old) (S.left source.new) bytes
+        × Takes (status_of result) (length bytes) }
+    ensures end { TakesAll (status_of result) → IsSpent (S.left source.new) }
+{
     let input = read_input(alloc, command.format(), source)?;
-    act(alloc, &command, input)
+    act(alloc, command, input)
 }

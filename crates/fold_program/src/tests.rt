@@ -3,6 +3,7 @@ use crate::denominator::Denominator;
 use crate::number_option::NumberChoice;
 use crate::run::{run, run_calm};
 use crate::status::{Limit, ShapeCause, SheetCause, Status, TextFault, WordsCause};
+use crate::trial::{Row, SHOW_CP, SHOW_FOLD, check, faulty_fold, shown, shown_fold, strings};
 use crate::words::{Command, ConvertOptions, Format, ShowOptions, read_words};
 use cp_lines::{CpCause, CpFault};
 use fold_base::{CalmSink, List, MemorySink, MemorySource, Text};
@@ -13,51 +14,9 @@ use std::env::{Env, FillError};
 use std::process::Abort;
 use std::test::Fail;
 
-const SHOW_CP: &[&str] = &["show", "--from=cp"];
-
-const SHOW_FOLD: &[&str] = &["show", "--from=fold"];
-
 const SHOWN: &[u8] = b"1  0 0\t1 0\r\n\r\n3 0 0 1 1";
 
 const PRINTED: &[u8] = b"1 0 0 1 0\n3 0 0 1 1\n";
-
-fn strings(alloc: Global, words: &[&str]) -> Result<Vec<String>, AllocError> {
-    let mut strings = Vec::new(alloc);
-    for word in words {
-        strings.push(String::from_str(alloc, word)?)?;
-    }
-    Ok(strings)
-}
-
-/// A run, its outside, and what is to come of it.
-#[derive(Drop)]
-struct Row<'a> {
-    words: &'a [&'a str],
-    input: &'a [u8],
-    /// The most bytes that are taken and put in a call.
-    pieces: (u32, u32),
-    failing_takes: &'a [u64],
-    failing_puts: &'a [u64],
-    failing_notes: &'a [u64],
-    status: Status,
-    output: &'a [u8],
-    notes: &'a [u8],
-}
-
-/// Input that is shown with no fault outside.
-fn shown<'a>(input: &'a [u8], output: &'a [u8]) -> Row<'a> {
-    Row {
-        words: SHOW_CP,
-        input,
-        pieces: (4096, 4096),
-        failing_takes: &[],
-        failing_puts: &[],
-        failing_notes: &[],
-        status: Status::Done,
-        output,
-        notes: b"",
-    }
-}
 
 /// Input that is refused at its first fault.
 fn faulty<'a>(input: &'a [u8], fault: (u32, u32, CpCause), notes: &'a [u8]) -> Row<'a> {
@@ -70,23 +29,6 @@ fn faulty<'a>(input: &'a [u8], fault: (u32, u32, CpCause), notes: &'a [u8]) -> R
         })),
         notes,
         ..shown(input, b"")
-    }
-}
-
-/// FOLD text that is shown with no fault outside.
-fn shown_fold<'a>(input: &'a [u8], output: &'a [u8]) -> Row<'a> {
-    Row {
-        words: SHOW_FOLD,
-        ..shown(input, output)
-    }
-}
-
-/// FOLD text that is refused at its first fault.
-fn faulty_fold<'a>(input: &'a [u8], place: u32, cause: JsonCause, notes: &'a [u8]) -> Row<'a> {
-    Row {
-        status: Status::Text(TextFault::Json(JsonFault { place, cause })),
-        notes,
-        ..shown_fold(input, b"")
     }
 }
 
@@ -120,22 +62,6 @@ fn refused<'a>(words: &'a [&'a str], cause: WordsCause, notes: &'a [u8]) -> Row<
         notes,
         ..shown(SHOWN, b"")
     }
-}
-
-fn check(rt: &impl Abort, alloc: Global, row: Row<'_>) -> Result<(), AllocError> {
-    let input = List::from_slice(alloc, row.input)?;
-    let failing_takes = List::from_slice(alloc, row.failing_takes)?;
-    let failing_puts = List::from_slice(alloc, row.failing_puts)?;
-    let mut source = MemorySource::new(input, row.pieces.0, failing_takes);
-    let mut sink = MemorySink::new(alloc, row.pieces.1, failing_puts, 100)?;
-    let failing_notes = List::from_slice(alloc, row.failing_notes)?;
-    let mut notes = MemorySink::new(alloc, 100, failing_notes, 100)?;
-    let words = strings(alloc, row.words)?;
-    let status = run(alloc, &words, &mut source, &mut sink, &mut notes);
-    assert_eq!(rt; status, row.status);
-    assert_eq!(rt; sink.bytes(), row.output);
-    assert_eq!(rt; notes.bytes(), row.notes);
-    Ok(())
 }
 
 #[test]
@@ -730,21 +656,24 @@ fn reads_words_of_convert(rt: HostRuntime) -> Result<(), Fail> {
 
 #[test]
 fn refuses_other_words(rt: HostRuntime) -> Result<(), Fail> {
-    let rows = [
-        refused(&[], WordsCause::Refused, b"fold_program: words refused\n"),
-        refused(
-            &["fly"],
-            WordsCause::Refused,
-            b"fold_program: words refused\n",
-        ),
-        refused(
-            &["show", "--from=opx"],
-            WordsCause::Value,
-            b"fold_program: words value\n",
-        ),
+    use WordsCause::{Refused, Value};
+    let rows: [(&[&str], WordsCause); 9] = [
+        (&[], Refused),
+        (&["fly"], Refused),
+        (&["judge", "--flat=drop"], Refused),
+        (&["drill", "--number=exact"], Refused),
+        (&["show", "--from=opx"], Value),
+        (&["judge", "--frame=01"], Value),
+        (&["drill", "--count=0"], Value),
+        (&["drill", "--count=501"], Value),
+        (&["drill", "--count=05"], Value),
     ];
-    for row in rows {
-        check(&rt, rt.alloc(), row)?;
+    for (words, cause) in rows {
+        let notes: &[u8] = match cause {
+            Refused => b"fold_program: words refused\n",
+            Value => b"fold_program: words value\n",
+        };
+        check(&rt, rt.alloc(), refused(words, cause, notes))?;
     }
     Ok(())
 }

@@ -1,8 +1,8 @@
 // The words of the command line, read by the crate `clap`.
-ghost use Rattle.std.specs.Prelude.{◌≡◌, ◌≢◌, ◌⊎◌, [], IfOk, IfErr, false, option_map};
+ghost use Rattle.std.specs.Prelude.{◌≡◌, ◌≢◌, ◌≤◌, ◌<◌, ◌⊎◌, ℕ, [], IfOk, IfErr, MatchOption, false, option_map};
 ghost use Rattle.clap.specs.Words.{app_of, found_of, rows_of, shape_of, subcommand_rows_of};
 ghost use Rattle.clap.specs.declared.builder.command.Command.TheViews.{out-Command};
-ghost use Rattle.fold_program.specs.Words.{texts, app, faults, found, as_listed, subcommand_shape, said_in, IsConversion, Mean, MeanShow, MeanConvert, MeanRepair, MeanFold, MeanJudge, MeansNone, NamesFaces, NamesFlat, NamesFormat, NamesNothing, NamesNumber, Says, AreWordsOf, AreRefused};
+ghost use Rattle.fold_program.specs.Words.{texts, app, faults, found, as_listed, subcommand_shape, said_in, IsConversion, Mean, MeanShow, MeanConvert, MeanRepair, MeanFold, MeanJudge, MeanDrill, MeansNone, NamesCount, NamesFaces, NamesFlat, NamesFormat, NamesNothing, NamesNumber, Says, AreWordsOf, AreRefused};
 
 use crate::number_option::{NumberChoice, number_in, number_of};
 use crate::status::{Status, WordsCause};
@@ -25,6 +25,9 @@ pub enum Command {
     Fold(FoldOptions),
     /// Prints whether a frame that is a sheet folds flat with its faces ordered as they are.
     Judge(JudgeOptions),
+    /// Judges a strip of squares that is folded to and fro, which it makes itself: a large input from a
+    /// number.
+    Drill(DrillOptions),
 }
 
 #[derive(Clone, Copy, Debug, PartialEq, Eq)]
@@ -68,6 +71,12 @@ pub struct JudgeOptions {
 }
 
 #[derive(Clone, Copy, Debug, PartialEq, Eq)]
+pub struct DrillOptions {
+    /// How many squares the strip has, from 1 to 500.
+    pub count: u32,
+}
+
+#[derive(Clone, Copy, Debug, PartialEq, Eq)]
 pub enum Format {
     /// JSON.
     Fold,
@@ -76,7 +85,8 @@ pub enum Format {
 }
 
 impl Command {
-    ghost use Rattle.fold_program.specs.Outcome.{format_of};
+    ghost use Rattle.std.specs.Prelude.{None, Some};
+    ghost use Rattle.fold_program.specs.Outcome.{format_of, strip_of};
 
     /// The format of what the command reads.
     pub fn format(&self) -> Format
@@ -90,6 +100,21 @@ impl Command {
             Command::Repair(options) => options.from,
             Command::Fold(_) => Format::Fold,
             Command::Judge(_) => Format::Fold,
+            Command::Drill(_) => Format::Fold,
+        }
+    }
+
+    /// The squares of the strip whose text the command reads in place of the input, if it does.
+    pub fn strip(&self) -> Option<u32>
+        ensures { result ≡ strip_of self.now }
+    {
+        match self {
+            Command::Show(_) => None,
+            Command::Convert(_) => None,
+            Command::Repair(_) => None,
+            Command::Fold(_) => None,
+            Command::Judge(_) => None,
+            Command::Drill(options) => Some(options.count),
         }
     }
 }
@@ -100,7 +125,7 @@ pub struct Entry {
     options: &'static [&'static str],
 }
 
-static TABLE: [Entry; 5] = [
+static TABLE: [Entry; 6] = [
     Entry {
         name: "show",
         options: &["from"],
@@ -120,6 +145,10 @@ static TABLE: [Entry; 5] = [
     Entry {
         name: "judge",
         options: &["frame", "number", "orders"],
+    },
+    Entry {
+        name: "drill",
+        options: &["count"],
     },
 ];
 
@@ -186,6 +215,8 @@ fn command_of(alloc: Global, name: &str, options: &ArgMatches<'_>) -> Result<Com
         Ok(Command::Fold(fold_options(alloc, options)?))
     } else if name == "judge" {
         Ok(Command::Judge(judge_options(alloc, options)?))
+    } else if name == "drill" {
+        Ok(Command::Drill(drill_options(alloc, options)?))
     } else {
         // `clap` finds no command but those of the table.
         Err(Status::Words(WordsCause::Value))
@@ -270,6 +301,49 @@ fn judge_options(alloc: Global, options: &ArgMatches<'_>) -> Result<JudgeOptions
         number,
         orders,
     })
+}
+
+fn drill_options(alloc: Global, options: &ArgMatches<'_>) -> Result<DrillOptions, Status>
+    ensures ok { IfOk result (MeanDrill (said_in (rows_of (found_of options.now)))) }
+    ensures err { IfErr result
+        (MeansNone (MeanDrill (said_in (rows_of (found_of options.now))))) }
+{
+    let count = count_of(alloc, options.get_str("count"))?;
+    Ok(DrillOptions { count })
+}
+
+/// The number of squares that an option says, and 100 where it isn't given.
+fn count_of(alloc: Global, said: Option<&str>) -> Result<u32, Status>
+    ensures ok { IfOk result (Says NamesCount 100 (option_map (λ text. text.now) said.entry)) }
+    ensures err { IfErr result
+        (MeansNone (Says NamesCount 100 (option_map (λ text. text.now) said.entry))) }
+{
+    match said {
+        None => Ok(100),
+        Some(text) => count_in(alloc, text)?.ok_or(Status::Words(WordsCause::Value)),
+    }
+}
+
+/// The number of squares that the text spells.
+fn count_in(alloc: Global, text: &str) -> Result<Option<u32>, AllocError>
+    ensures { IfOk result (λ found.
+        MatchOption found ((count : ℕ) → ¬ NamesCount text.now count) (NamesCount text.now)) }
+{
+    match number_in(alloc, text)? {
+        Some(number) => Ok(as_count(number)),
+        None => Ok(None),
+    }
+}
+
+/// The number, if it is one of squares.
+fn as_count(number: u32) -> Option<u32>
+    ensures { MatchOption result ((number ≡ 0) ⊎ (500 < number))
+        (λ count. (count ≡ number) × (1 ≤ count) × (count ≤ 500)) }
+{
+    if number == 0 || number > 500 {
+        return None;
+    }
+    Some(number)
 }
 
 /// What becomes of segments with the letter F: they are kept where the option isn't given.

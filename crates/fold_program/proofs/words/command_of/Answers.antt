@@ -1,8 +1,8 @@
 use Rattle.std.proofs.Common.{◌≡◌, rules, codes}
 use Rattle.std.proofs.lemmas.Result.{err_from_is_err_and}
 use Rattle.clap.specs.Words.{rows_of, found_of}
-use Rattle.fold_program.specs.Words.{MeanConvert, MeanFold, MeanJudge, MeanRepair, said_in}
-use Rattle.fold_program.proofs.Decide.{no_convert, no_fold, no_judge, no_repair}
+use Rattle.fold_program.specs.Words.{MeanConvert, MeanDrill, MeanFold, MeanJudge, MeanRepair, said_in}
+use Rattle.fold_program.proofs.Decide.{no_convert, no_drill, no_fold, no_judge, no_repair}
 use Rattle.fold_program.proofs.Meaning.{no_meaning}
 use Rattle.fold_program.proofs.words.command_of.Goals as goal
 
@@ -33,3 +33,10 @@ returns-in_err-judge_options-clause-err c =
     let is : c.args.name.now ≡ codes "judge" = search rules in
     let p = err_from_is_err_and c.from_residual-in_err-judge_options.result c.from_residual-in_err-judge_options.ensures.1 in
     rw (p.1, p.2) (no_meaning (MeanJudge said) c.args.name.now said _ (no_judge c.args.name.now said is) c.in_err-judge_options.ensures.err)
+
+pub returns-in_err-drill_options-clause-err : goal.returns-in_err-drill_options-clause-err
+returns-in_err-drill_options-clause-err c =
+    let said = said_in (rows_of (found_of c.args.options.now)) in
+    let is : c.args.name.now ≡ codes "drill" = search rules in
+    let p = err_from_is_err_and c.from_residual-in_err-drill_options.result c.from_residual-in_err-drill_options.ensures.1 in
+    rw (p.1, p.2) (no_meaning (MeanDrill said) c.args.name.now said _ (no_drill c.args.name.now said is) c.in_err-drill_options.ensures.err)
