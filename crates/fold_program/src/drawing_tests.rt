@@ -1,7 +1,7 @@
 // Lines as FOLD files by example, and long ways of frames.
-use crate::status::{NumberCause, ShapeCause, Status};
 use crate::trial::{HEAD, answer};
 use crease_input::Axis;
+use fold_commands::{NumberCause, ShapeCause, Status};
 use number_rules::Unread;
 use std::alloc::Global;
 use std::fmt::Write;

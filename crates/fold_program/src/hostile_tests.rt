@@ -1,6 +1,6 @@
 // Verdicts of texts that end early, and of sources and sinks that fail.
-use crate::status::{SheetCause, Status};
 use crate::trial::{Row, check, faulty_fold, shown};
+use fold_commands::{SheetCause, Status};
 use json_read::JsonCause;
 use std::alloc::AllocError;
 use std::test::Fail;

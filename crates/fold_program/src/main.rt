@@ -4,35 +4,16 @@
 //! printed form; `fold_program show --from=cp` does so with CP text. `fold_program convert --frame=2`
 //! writes frame 2 of a FOLD file, with all that it inherits, as a file of its own, and
 //! `fold_program convert --from=cp` CP text as a FOLD file. `fold_program repair` cuts the segments of
-//! either into vertices and pieces, and finds the faces. `fold_program drill` judges a strip that it
-//! makes itself.
+//! either into vertices and pieces, and finds the faces. `fold_program fold` lays a sheet flat, and
+//! `fold_program judge` says whether its layers can lie as they are ordered. `fold_program drill` judges
+//! a strip that it makes itself.
 #![tactic(auto)]
 
-mod act;
-mod aim;
 mod arguments;
-mod convert;
-mod denominator;
-mod draw;
-mod drawing;
-mod drill;
-mod fold;
-mod folded;
-mod given;
-mod input;
-mod judge;
-mod messages;
-mod notes;
-mod number_option;
-mod repair;
-mod run;
-mod status;
-mod words;
-mod writable;
 
 use arguments::words_after_name;
 use fold_base::{ReadSource, WriteSink};
-use run::run;
+use fold_commands::run;
 use std::io;
 use std::process::ExitCode;
 

@@ -1,12 +1,11 @@
 use crate::arguments::words_after_name;
-use crate::denominator::Denominator;
-use crate::number_option::NumberChoice;
-use crate::run::{run, run_calm};
-use crate::status::{Limit, ShapeCause, SheetCause, Status, TextFault, WordsCause};
 use crate::trial::{Row, SHOW_CP, SHOW_FOLD, check, faulty_fold, shown, shown_fold, strings};
-use crate::words::{Command, ConvertOptions, Format, ShowOptions, read_words};
 use cp_lines::{CpCause, CpFault};
 use fold_base::{CalmSink, List, MemorySink, MemorySource, Text};
+use fold_commands::{
+    Command, ConvertOptions, Denominator, Format, Limit, NumberChoice, ShapeCause, SheetCause,
+    ShowOptions, Status, TextFault, WordsCause, read_words, run, run_calm,
+};
 use fold_keys::{ShapeFault, ShapeKind};
 use json_read::{JsonCause, JsonFault};
 use std::alloc::{AllocError, Global};

@@ -1,7 +1,6 @@
 // Runs of the program over memory.
-use crate::run::run;
-use crate::status::{Status, TextFault};
 use fold_base::{List, MemorySink, MemorySource};
+use fold_commands::{Status, TextFault, run};
 use json_read::{JsonCause, JsonFault};
 use std::alloc::{AllocError, Global};
 use std::process::Abort;

@@ -1,8 +1,0 @@
-use Rattle.fold_program.proofs.Repairing.{readable}
-use Rattle.fold_program.proofs.repair.repair_file.Goals as goal
-
-pub repair_frame-requires : goal.repair_frame-requires
-repair_frame-requires c =
-    readable c.args.file.now c.args.options.now.frame c.in_ok-frame.frame c.in_ok-frame.ensures c.requires.short
-    (λ most short points is. c.coordinates_are_short.ensures most c.args.file.now c.requires.writable short c.args.options.now.frame
-    c.in_ok-frame.frame.entries c.in_ok-frame.ensures.1 _ points is)

@@ -1,9 +1,0 @@
-use Rattle.fold_program.proofs.Decide.{apart}
-use Rattle.fold_program.proofs.Plain.{plain_words}
-use Rattle.fold_program.proofs.run.plain_words.Goals as goal
-
-pub returns-clause-meant : goal.returns-clause-meant
-returns-clause-meant c = plain_words
-
-pub returns-clause-taken : goal.returns-clause-taken
-returns-clause-taken c = λ words command status plain refused. apart words status command refused (plain_words words command plain)

@@ -1,5 +1,0 @@
-use Rattle.fold_program.proofs.Narrow.{refuses_no_narrow}
-use Rattle.fold_program.proofs.writable.narrow_drawings_can_be_written.Goals as goal
-
-pub returns : goal.returns
-returns c = refuses_no_narrow c.narrow_vertices_are_writable.ensures
