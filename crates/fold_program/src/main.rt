@@ -18,6 +18,8 @@ use std::io;
 use std::process::ExitCode;
 
 #[cfg(test)]
+mod convert_tests;
+#[cfg(test)]
 mod drawing_tests;
 #[cfg(test)]
 mod drill_tests;
@@ -28,11 +30,15 @@ mod hostile_tests;
 #[cfg(test)]
 mod limits_tests;
 #[cfg(test)]
+mod outside_tests;
+#[cfg(test)]
 mod repair_tests;
 #[cfg(test)]
-mod tests;
+mod show_tests;
 #[cfg(test)]
 mod trial;
+#[cfg(test)]
+mod words_tests;
 
 fn main(rt: HostRuntime) -> ExitCode {
     let alloc = rt.alloc();

@@ -1,6 +1,8 @@
 // Runs of the program over memory.
-use fold_base::{List, MemorySink, MemorySource};
-use fold_commands::{Status, TextFault, run};
+use cp_lines::{CpCause, CpFault};
+use fold_base::{List, MemorySink, MemorySource, Text};
+use fold_commands::{ShapeCause, Status, TextFault, WordsCause, run};
+use fold_keys::{ShapeFault, ShapeKind};
 use json_read::{JsonCause, JsonFault};
 use std::alloc::{AllocError, Global};
 use std::process::Abort;
@@ -14,6 +16,16 @@ pub(crate) const REPAIR: &[&str] = &["repair", "--from=cp"];
 /// The head of each pattern that is written.
 pub(crate) const HEAD: &str =
     r#"{"file_spec":1.2,"file_creator":"fold_program","frame_classes":["creasePattern"],"#;
+
+pub(crate) const SHOWN: &[u8] = b"1  0 0\t1 0\r\n\r\n3 0 0 1 1";
+
+pub(crate) const PRINTED: &[u8] = b"1 0 0 1 0\n3 0 0 1 1\n";
+
+/// A file whose frames inherit from one another.
+pub(crate) const FRAMES: &[u8] =
+    b"{\"vertices_coords\":[[0,0]],\"frame_title\":\"a\",\"file_frames\":[\
+    {\"frame_parent\":0,\"frame_inherit\":true,\"frame_title\":\"b\"},\
+    {\"frame_parent\":1,\"frame_inherit\":true,\"x:y\":7}]}";
 
 pub(crate) fn strings(alloc: Global, words: &[&str]) -> Result<Vec<String>, AllocError> {
     let mut strings = Vec::new(alloc);
@@ -72,6 +84,52 @@ pub(crate) fn faulty_fold<'a>(
         status: Status::Text(TextFault::Json(JsonFault { place, cause })),
         notes,
         ..shown_fold(input, b"")
+    }
+}
+
+/// Input that is refused at its first fault.
+pub(crate) fn faulty<'a>(input: &'a [u8], fault: (u32, u32, CpCause), notes: &'a [u8]) -> Row<'a> {
+    let (line, column, cause) = fault;
+    Row {
+        status: Status::Text(TextFault::Cp(CpFault {
+            line,
+            column,
+            cause,
+        })),
+        notes,
+        ..shown(input, b"")
+    }
+}
+
+/// FOLD text that is refused at its first misfit.
+pub(crate) fn misfit<'a>(
+    alloc: Global,
+    input: &'a [u8],
+    place: (u32, &str, u32, ShapeKind),
+    notes: &'a [u8],
+) -> Result<Row<'a>, AllocError> {
+    let (frame, key, index, cause) = place;
+    let fault = ShapeFault {
+        frame,
+        key: Text::from_text(alloc, key)?,
+        index,
+        cause,
+    };
+    Ok(Row {
+        status: Status::Shape(ShapeCause::Key(fault)),
+        notes,
+        ..shown_fold(input, b"")
+    })
+}
+
+/// Words that are refused. A source that is asked for bytes fails.
+pub(crate) fn refused<'a>(words: &'a [&'a str], cause: WordsCause, notes: &'a [u8]) -> Row<'a> {
+    Row {
+        words,
+        failing_takes: &[1],
+        status: Status::Words(cause),
+        notes,
+        ..shown(SHOWN, b"")
     }
 }
 
