@@ -11,6 +11,3 @@ pub use fault::{CpCause, CpFault, CpReadFault};
 pub use line::CpLine;
 pub use print::{print_cp, reads_back};
 pub use read::{one_reading, read_cp, short_lines};
-
-#[cfg(test)]
-mod tests;

@@ -28,6 +28,3 @@ pub use pattern::pattern_text;
 pub use root::frame_root;
 pub use segments::drawing_lines;
 pub use strips::make_strips;
-
-#[cfg(test)]
-mod tests;

@@ -7,6 +7,8 @@ mod drawing;
 #[cfg(test)]
 mod folding;
 #[cfg(test)]
+mod motions;
+#[cfg(test)]
 mod parts;
 #[cfg(test)]
 mod refusing;

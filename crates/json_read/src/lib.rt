@@ -22,6 +22,3 @@ mod word;
 pub use fault::{JsonCause, JsonFault, JsonReadFault};
 pub use laws::{one_reading, reads_back, short_faults};
 pub use reader::{JsonReader, reader_laws};
-
-#[cfg(test)]
-mod tests;

@@ -20,6 +20,3 @@ pub use printing::{print, printed_form_spells};
 pub use proper::is_proper;
 pub use scanner::NumberScanner;
 pub use tree::{Json, Member};
-
-#[cfg(test)]
-mod tests;

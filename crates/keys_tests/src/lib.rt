@@ -1,5 +1,5 @@
 //! FOLD files as they are read from texts: the first misfit of each, or the file as it is written
-//! again; frames with what they inherit; and the drawings of frames.
+//! again; frames with what they inherit; the drawings of frames and of CP lines; and files of drawings.
 #![tactic(auto)]
 
 #[cfg(test)]
@@ -8,3 +8,5 @@ mod drawings;
 mod files;
 #[cfg(test)]
 mod frames;
+#[cfg(test)]
+mod lines;

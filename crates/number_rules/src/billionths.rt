@@ -23,37 +23,3 @@ fn has_sign(negative: bool, count: i128) -> bool
 {
     if negative { count <= 0 } else { count >= 0 }
 }
-
-#[cfg(test)]
-mod tests {
-    use super::*;
-    use std::test::Fail;
-
-    #[test]
-    fn billionths(rt: HostRuntime) -> Result<(), Fail> {
-        const LARGE: i128 = 13_528_000_000_000_000_000_000_000_000_000_000_001;
-        for (text, count, has) in [
-            ("0.414213562", 414_213_562, true),
-            ("0.4142135620", 414_213_562, true),
-            ("414213562e-9", 414_213_562, true),
-            ("0.4142135621", 414_213_562, false),
-            ("-0.414213562", 414_213_562, false),
-            ("-0.414213562", -414_213_562, true),
-            ("-0", 0, true),
-            ("0e999999999999999999999", 0, true),
-            ("1e999999999999999999999", 0, false),
-            ("1e-999999999999999999999", 0, false),
-            ("13528000000000000000000000000.000000001", LARGE, true),
-            ("13528000000000000000000000000.0000000010", LARGE, true),
-            ("13528000000000000000000000000.0000000011", LARGE, false),
-            ("13528000000000000000000000000.000000002", LARGE, false),
-            ("13528000000000000000000000000000000000001", LARGE, false),
-        ] {
-            let number = NumberText::read(rt.alloc(), text)?;
-            assert!(rt; number.bytes().len() <= 16_777_216);
-            assert!(rt; count.unsigned_abs() <= LARGE.unsigned_abs());
-            assert_eq!(rt; has_billionths(&number, count), has, "{text}");
-        }
-        Ok(())
-    }
-}

@@ -1,5 +1,6 @@
-use crate::{JsonCause, JsonFault, JsonReadFault, JsonReader};
+// JSON text that comes in pieces.
 use fold_base::{List, MemorySource, Text, read_pieces};
+use json_read::{JsonCause, JsonFault, JsonReadFault, JsonReader};
 use json_tree::{Json, print};
 use std::alloc::Global;
 use std::test::Fail;
@@ -99,5 +100,49 @@ fn answers_a_fault_again(rt: HostRuntime) -> Result<(), Fail> {
     assert_eq!(rt; reader.feed(b",]"), Err(fault));
     assert_eq!(rt; reader.feed(b"2]"), Err(fault));
     assert_eq!(rt; reader.finish().err(), Some(fault));
+    Ok(())
+}
+
+#[test]
+fn reads_words(rt: HostRuntime) -> Result<(), Fail> {
+    let alloc = rt.alloc();
+    for (text, word) in [
+        (r#""""#, ""),
+        (r#""plain""#, "plain"),
+        (r#""\"\\\/\b\f\n\r\t""#, "\"\\/\u{8}\u{c}\n\r\t"),
+        (r#""\u0041\u00e9\u00E9""#, "Aéé"),
+        (r#""\uD83D\uDE00""#, "😀"),
+        (r#""é€😀""#, "é€😀"),
+    ] {
+        match read(alloc, List::from_slice(alloc, text.as_bytes())?, 1) {
+            Ok(Json::Word(read)) => assert_eq!(rt; read.as_str(), word),
+            _ => return Err(text.into()),
+        }
+    }
+    Ok(())
+}
+
+#[test]
+fn refuses_bytes_of_words(rt: HostRuntime) -> Result<(), Fail> {
+    let alloc = rt.alloc();
+    for (bytes, place) in [
+        (b"\"\x1f".as_slice(), 1),
+        (b"\"\xc0".as_slice(), 1),
+        (b"\"\xed\xa0".as_slice(), 2),
+        (b"\"\xf4\x90".as_slice(), 2),
+        (b"\"\xe2\x82.".as_slice(), 3),
+        (b"\"\\x".as_slice(), 2),
+        (b"\"\\u00g".as_slice(), 5),
+        (b"\"\\uDC00".as_slice(), 4),
+        (b"\"\\uD83Dx".as_slice(), 7),
+        (b"\"\\uD83D\\u0041".as_slice(), 9),
+    ] {
+        let fault = JsonReadFault::Text(JsonFault {
+            place,
+            cause: JsonCause::Byte,
+        });
+        let read = read(alloc, List::from_slice(alloc, bytes)?, 4096);
+        assert_eq!(rt; read.err(), Some(fault), "{bytes:?}");
+    }
     Ok(())
 }

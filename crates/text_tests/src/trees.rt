@@ -1,7 +1,8 @@
-use crate::{
+// JSON as a tree, and the texts of numbers.
+use fold_base::{List, Text};
+use json_tree::{
     Json, Member, NumberReadFault, NumberScanner, NumberText, Step, at, copy, is_proper, print,
 };
-use fold_base::{List, Text};
 use std::alloc::{AllocError, Global};
 use std::test::Fail;
 

@@ -5,8 +5,10 @@ ghost use Rattle.number_rules.specs.Kept.{KeepsItsRow};
 ghost use Rattle.root_two.specs.Roots.{root_parts};
 ghost use Rattle.crease_input.specs.Lines.{IsReadable};
 
-use crate::{Axis, InputFault, all_lines_ends, drawing_file, frame_root, lines_ends, pattern_text};
 use cp_lines::CpLine;
+use crease_input::{
+    Axis, InputFault, all_lines_ends, drawing_file, frame_root, lines_ends, pattern_text,
+};
 use exact_number::Exact;
 use fold_base::{Letter, List};
 use fold_frames::effective;

@@ -1,4 +1,5 @@
-use crate::{CpCause, CpFault, CpReadFault, print_cp, read_cp};
+// CP text.
+use cp_lines::{CpFault, CpReadFault, print_cp, read_cp};
 use fold_base::MOST_BYTES;
 use std::alloc::Global;
 use std::test::Fail;
