@@ -138,35 +138,3 @@ impl Hash for Text {
         self.as_str().hash(state);
     }
 }
-
-#[cfg(test)]
-mod tests {
-    use super::*;
-    use std::collections::HashSet;
-    use std::test::Fail;
-
-    #[test]
-    fn is_a_key(rt: HostRuntime) -> Result<(), Fail> {
-        let alloc = rt.alloc();
-        let mut texts = HashSet::new(alloc);
-        for (text, is_new) in [("a", true), ("b", true), ("a", false)] {
-            let mut grown = Text::from_text(alloc, text)?;
-            grown.push('é')?;
-            assert_eq!(rt; texts.insert(grown).ok().ok_or("memory")?, is_new, "{text}");
-        }
-        Ok(())
-    }
-
-    #[test]
-    fn takes_utf8_alone(rt: HostRuntime) -> Result<(), Fail> {
-        let alloc = rt.alloc();
-        let accented = Text::from_bytes(alloc, "é".as_bytes()).ok().ok_or("utf-8")?;
-        assert_eq!(rt; accented.copy(alloc)?.as_str(), "é");
-        assert_eq!(rt;
-            Text::from_bytes(alloc, b"\xc3").err(),
-            Some(TextMakeFault::NotUtf8)
-        );
-        assert_eq!(rt; Text::from_ascii(alloc, b"e")?.as_str(), "e");
-        Ok(())
-    }
-}
