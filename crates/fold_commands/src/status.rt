@@ -21,6 +21,7 @@ use scaled_plane::SheetFlaw;
 use std::alloc::AllocError;
 use std::fmt;
 
+/// How a run ended: [`Status::code`] is the exit status, and `Display` what is said of it.
 #[derive(Debug, PartialEq, Eq, Drop)]
 pub enum Status {
     /// The text that the words ask for was written whole.

@@ -305,9 +305,9 @@ fn answers(rt: HostRuntime) -> Result<(), Fail> {
     for (words, input, code, line) in ANSWERED {
         let told = answer(alloc, words, input, 4096)?;
         let due = format!(in alloc; "{line}\n")?;
-        assert_eq!(rt; told.sink.bytes(), due.as_bytes());
-        assert_eq!(rt; told.notes.bytes().len(), 0);
-        assert_eq!(rt; told.status.code(), *code);
+        assert_eq!(rt; told.sink.bytes(), due.as_bytes(), "{input}");
+        assert_eq!(rt; told.notes.bytes().len(), 0, "{input}");
+        assert_eq!(rt; told.status.code(), *code, "{input}");
     }
     Ok(())
 }
@@ -318,9 +318,9 @@ fn refuses(rt: HostRuntime) -> Result<(), Fail> {
     for (words, input, code, cause) in REFUSED {
         let told = answer(alloc, words, input, 4096)?;
         let due = format!(in alloc; "fold_program: {cause}\n")?;
-        assert_eq!(rt; told.notes.bytes(), due.as_bytes());
-        assert_eq!(rt; told.sink.bytes().len(), 0);
-        assert_eq!(rt; told.status.code(), *code);
+        assert_eq!(rt; told.notes.bytes(), due.as_bytes(), "{input}");
+        assert_eq!(rt; told.sink.bytes().len(), 0, "{cause}");
+        assert_eq!(rt; told.status.code(), *code, "{cause}");
     }
     Ok(())
 }

@@ -13,7 +13,7 @@ mod arguments;
 
 use arguments::words_after_name;
 use fold_base::{ReadSource, WriteSink};
-use fold_commands::run;
+use fold_commands::{Status, WordsCause, run};
 use std::io;
 use std::process::ExitCode;
 
@@ -45,15 +45,20 @@ fn main(rt: HostRuntime) -> ExitCode {
     let words: Vec<String> = match words_after_name(&rt, alloc) {
         Ok(words) => match words.collect(alloc) {
             Ok(words) => words,
-            Err(_) => return ExitCode::from(10),
+            Err(_) => return exit(&Status::Memory),
         },
-        Err(error) if error.kind() == io::ErrorKind::OutOfMemory => return ExitCode::from(10),
+        Err(error) if error.kind() == io::ErrorKind::OutOfMemory => return exit(&Status::Memory),
         // A word isn't UTF-8.
-        Err(_) => return ExitCode::from(6),
+        Err(_) => return exit(&Status::Words(WordsCause::Refused)),
     };
     let mut source = ReadSource::new(rt.stdin());
     let mut sink = WriteSink::new(rt.stdout());
     let mut notes = WriteSink::new(rt.stderr());
     let status = run(alloc, &words, &mut source, &mut sink, &mut notes);
+    exit(&status)
+}
+
+/// The exit code of a run that ended so.
+fn exit(status: &Status) -> ExitCode {
     ExitCode::from(status.code())
 }

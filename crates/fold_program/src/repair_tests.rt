@@ -118,9 +118,9 @@ fn draws(rt: HostRuntime) -> Result<(), Fail> {
     for (words, input, rest) in DRAWN {
         let told = answer(alloc, words, input, 4096)?;
         let due = format!(in alloc; "{HEAD}{rest}\n")?;
-        assert_eq!(rt; told.sink.bytes(), due.as_bytes());
-        assert_eq!(rt; told.notes.bytes().len(), 0);
-        assert_eq!(rt; told.status.code(), 0);
+        assert_eq!(rt; told.sink.bytes(), due.as_bytes(), "{input}");
+        assert_eq!(rt; told.notes.bytes().len(), 0, "{input}");
+        assert_eq!(rt; told.status.code(), 0, "{input}");
     }
     Ok(())
 }
@@ -131,9 +131,9 @@ fn refuses(rt: HostRuntime) -> Result<(), Fail> {
     for (words, input, code, cause) in REFUSED {
         let told = answer(alloc, words, input, 4096)?;
         let due = format!(in alloc; "fold_program: {cause}\n")?;
-        assert_eq!(rt; told.notes.bytes(), due.as_bytes());
-        assert_eq!(rt; told.sink.bytes().len(), 0);
-        assert_eq!(rt; told.status.code(), *code);
+        assert_eq!(rt; told.notes.bytes(), due.as_bytes(), "{input}");
+        assert_eq!(rt; told.sink.bytes().len(), 0, "{cause}");
+        assert_eq!(rt; told.status.code(), *code, "{cause}");
     }
     Ok(())
 }

@@ -55,18 +55,20 @@ fn coords_of<N: Exact>(alloc: Global, spots: &[Spot]) -> Result<List<Pair<N>>, F
     Ok(coords)
 }
 
-/// Appends an edge, if its ends are among so many vertices.
-fn push_edge(edges: &mut List<Edge>, piece: Piece, count: usize) -> Result<(), AllocError>
+/// Appends an edge whose ends are among so many vertices.
+fn push_edge(edges: &mut List<Edge>, piece: Piece, count: usize) -> Result<(), Fail>
     ensures { OnOk result (All (λ e. (e.from < count) × (e.to < count)) edges.old → All (λ e. (e.from < count) × (e.to < count)) edges.new) }
 {
     let (from, to, letter) = piece;
     if (from as usize) < count && (to as usize) < count {
         edges.push(Edge { from, to, letter })?;
+        Ok(())
+    } else {
+        Err("an edge ends at no vertex".into())
     }
-    Ok(())
 }
 
-fn edges_of(alloc: Global, pieces: &[Piece], count: usize) -> Result<List<Edge>, AllocError>
+fn edges_of(alloc: Global, pieces: &[Piece], count: usize) -> Result<List<Edge>, Fail>
     ensures { IfOk result (All (λ e. (e.from < count) × (e.to < count))) }
 {
     let mut edges = List::new(alloc);

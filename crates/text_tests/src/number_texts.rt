@@ -12,9 +12,7 @@ const FAR: i128 = 1 << 92;
 /// Compares the text of (a+b√K)/q.
 fn writes<N: Exact>(rt: &impl Abort, a: i128, b: i128, q: i128, text: &str) {
     assert!(rt; q > 0);
-    let Some(number) = N::from_parts(a, b, q) else {
-        return;
-    };
+    let number = N::from_parts(a, b, q).expect(rt, "parts of a number");
     let (a, b, q) = number.parts();
     assert!(rt; a.unsigned_abs() <= 1 << 92);
     assert!(rt; b.unsigned_abs() <= 1 << 92);
