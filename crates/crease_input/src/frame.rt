@@ -165,7 +165,9 @@ fn corners_of<'a>(
 
 /// The vertices, edges and faces of a frame, the faces only where they are asked for.
 ///
-/// Where the frame has exact texts the rule isn't used.
+/// Where the frame has exact texts these are read, and the rule isn't used. Errors come in this order: a key that the frame
+/// lacks; more than 16,384 vertices, 2,048 edges or 512 faces; and then vertex by vertex a third coordinate that isn't 0, one
+/// that isn't read, or one that isn't its exact number rounded to nine decimals.
 pub fn frame_ends<N: Exact, F: Fn(Decimal) -> Result<N, Unread>>(
     alloc: Global,
     frame: &Effective,

@@ -95,7 +95,11 @@ pub fn all_lines_ends<N: Exact, F: Fn(Decimal) -> Result<N, Unread>>(
     Ok(Ends { coords, edges })
 }
 
-/// The vertices and edges of lines that are few enough to be computed with.
+/// The vertices and edges of at most 2,048 lines: each different end is a vertex, in the order in which they first come, and
+/// each line an edge with the letter of its kind.
+///
+/// More lines are [`InputFault::TooMany`]. Else the first coordinate that isn't read is the error, in the order of the lines, and
+/// of each x before y and the first end before the second; its vertex counts the ends before it, two for each line.
 pub fn lines_ends<N: Exact, F: Fn(Decimal) -> Result<N, Unread>>(
     alloc: Global,
     lines: &[CpLine],
