@@ -15,3 +15,5 @@ mod vertices;
 
 pub use drawing::pieces;
 pub use fault::PieceFault;
+pub use span::{left_end, right_end, x_order};
+pub use vertex::{Vertex, vertex_at};

@@ -72,7 +72,8 @@ pub fn x_order<W: Whole>(p: Point<W>, q: Point<W>) -> Ordering
     cross(p.x, p.w, q.x, q.w).sign()
 }
 
-fn left_end<W: Whole>(s: Segment<W>) -> Point<W>
+/// The end of a segment that lies more to the left, or the first where they lie above each other.
+pub fn left_end<W: Whole>(s: Segment<W>) -> Point<W>
     requires { IsScaledSegment W.numbers s }
     ensures is { result ≡ left_end W.numbers.ring s }
     ensures scaled { IsScaledPoint W.numbers result }
@@ -84,7 +85,8 @@ fn left_end<W: Whole>(s: Segment<W>) -> Point<W>
     }
 }
 
-fn right_end<W: Whole>(s: Segment<W>) -> Point<W>
+/// The other end.
+pub fn right_end<W: Whole>(s: Segment<W>) -> Point<W>
     requires { IsScaledSegment W.numbers s }
     ensures is { result ≡ right_end W.numbers.ring s }
     ensures scaled { IsScaledPoint W.numbers result }

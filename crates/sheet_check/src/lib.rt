@@ -18,7 +18,6 @@ mod sever;
 mod span;
 mod sweep;
 mod table;
-mod vertex;
 
 pub use check::check_sheet;
 pub use fault::SheetFault;

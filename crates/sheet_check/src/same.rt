@@ -8,7 +8,7 @@ ghost use Rattle.arrangement.specs.Found.{Has};
 ghost use Rattle.sheet_check.specs.Same.{AreSame, HasFrom, IsFirstFrom, IsRepeated};
 ghost use Rattle.sheet_check.specs.Passed.{IsFirstPair};
 
-use crate::vertex::{Vertex, vertex_at};
+use arrangement::{Vertex, vertex_at};
 use exact_number::Whole;
 use plane::Point;
 use scaled_plane::compare_points;

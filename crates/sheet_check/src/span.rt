@@ -3,15 +3,13 @@ ghost use Rattle.std.specs.Ordering.{on, eq_by_cmp, as_partial_cmp, is_le};
 ghost use Rattle.std.specs.Cmp.{on_total, partial_equiv_from_equiv, eq_by_cmp_equiv, partial_order_from_total};
 ghost use Rattle.plane.proofs.Order.{points_total};
 ghost use Rattle.plane.specs.Points.{point_order};
-ghost use Rattle.scaled_plane.specs.Counts.{left_end, right_end, x_order};
-ghost use Rattle.scaled_plane.specs.Drawn.{IsScaledPoint, IsScaledSegment};
+ghost use Rattle.scaled_plane.specs.Drawn.{IsScaledPoint};
 ghost use Rattle.scaled_plane.specs.Pieces.{point_at};
-ghost use Rattle.scaled_plane.specs.Sizes.{IsDrawnSize};
 ghost use Rattle.std.specs.List.Sorted.{IsPermutation};
 ghost use Rattle.sheet_check.specs.Spans.{AreInRange, IsOfEdge, IsSpan, up_to};
 
-use crate::vertex::{Vertex, vertex_at};
-use exact_number::{Whole, cross};
+use arrangement::{Vertex, left_end, right_end, vertex_at};
+use exact_number::Whole;
 use plane::Point;
 use scaled_plane::{Edge, Segment};
 use std::alloc::{AllocError, Global};
@@ -61,39 +59,6 @@ impl<W: Whole> Ord for Span<W> {
 
     fn cmp(&self, other: &Span<W>) -> Ordering {
         self.left.cmp(&other.left)
-    }
-}
-
-/// `Less` where p lies left of q, and `Equal` where it lies straight above or below.
-pub fn x_order<W: Whole>(p: Point<W>, q: Point<W>) -> Ordering
-    requires first { IsDrawnSize W.pair p }
-    requires second { IsDrawnSize W.pair q }
-    ensures { result ≡ x_order W.numbers.ring p q }
-{
-    cross(p.x, p.w, q.x, q.w).sign()
-}
-
-fn left_end<W: Whole>(s: Segment<W>) -> Point<W>
-    requires { IsScaledSegment W.numbers s }
-    ensures is { result ≡ left_end W.numbers.ring s }
-    ensures scaled { IsScaledPoint W.numbers result }
-{
-    if x_order(s.from, s.to).is_le() {
-        s.from
-    } else {
-        s.to
-    }
-}
-
-fn right_end<W: Whole>(s: Segment<W>) -> Point<W>
-    requires { IsScaledSegment W.numbers s }
-    ensures is { result ≡ right_end W.numbers.ring s }
-    ensures scaled { IsScaledPoint W.numbers result }
-{
-    if x_order(s.from, s.to).is_le() {
-        s.to
-    } else {
-        s.from
     }
 }
 

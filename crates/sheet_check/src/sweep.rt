@@ -7,7 +7,8 @@ ghost use Rattle.scaled_plane.specs.Drawn.{IsScaledSegment};
 ghost use Rattle.sheet_check.specs.Spans.{AreTested, ComesFrom, IsBefore, IsReachedBy, IsSpan, MeetBeside, MeetTwo, MeetsOne, pair_of};
 
 use crate::meeting::meet_beside;
-use crate::span::{Span, x_order};
+use crate::span::Span;
+use arrangement::x_order;
 use exact_number::Whole;
 use segment_tests::Steps;
 use std::sync::ledger::Ledger;
