@@ -15,5 +15,6 @@ pub mod Outcome
 pub mod Regions
 pub mod Headline
 pub mod Narrow
+pub mod Near
 pub mod Notes
 pub mod Outside

@@ -19,6 +19,7 @@ mod given;
 mod input;
 mod judge;
 mod messages;
+mod near;
 mod notes;
 mod number_option;
 mod repair;

@@ -11,12 +11,14 @@ ghost use Rattle.fold_commands.specs.Outside.{PutsInto, PutsText, Takes, TakesAl
 ghost use Rattle.fold_base.specs.declared.outside.TheConstants.{MOST_BYTES};
 ghost use Rattle.fold_commands.specs.Headline.{HaveTrueVerdicts, JudgesFoldable};
 ghost use Rattle.fold_commands.specs.Narrow.{RefusesNoNarrow};
+ghost use Rattle.fold_commands.specs.Near.{AreReadNear};
 ghost use Rattle.fold_commands.specs.Regions.{WritesRegions};
 
 use crate::act::act;
 use crate::drill::strip_text;
 use crate::folded::{one_fold, true_verdicts};
 use crate::input::read_input;
+use crate::near::numbers_are_read_near;
 use crate::notes::note;
 use crate::repair::one_repair;
 use crate::status::{NoCause, Status};
@@ -68,6 +70,9 @@ pub fn run<S: Source, T: Sink, E: Sink>(
     // rationals, or where the coordinates that it read are narrow.
     ensures narrow { RefusesNoNarrow (texts words.now) (S.left source.old) result }
 
+    // Each number that a rule reads of a text lies within the rule's tolerance of the text's value.
+    ensures near { AreReadNear }
+
     // `judge` says yes to FOLD texts whose chosen frame is a sheet that folds flat, where the orders rank
     // each two faces that overlap, each stack has one order, nothing crosses a crease or a join at a
     // seam, and the letters are true. It says so to nothing else, and to each of these where nothing
@@ -84,6 +89,7 @@ pub fn run<S: Source, T: Sink, E: Sink>(
 {
     one_outcome();
     narrow_drawings_can_be_written();
+    numbers_are_read_near();
     yes_is_true();
     let status = perform(alloc, words, source, sink);
     note(alloc, &status, notes);

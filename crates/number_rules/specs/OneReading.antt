@@ -1,8 +1,10 @@
 -- What a row of the table reads of a text.
-use Rattle.std.specs.Prelude.{◌≡◌, ℕ, ◌<◌, ◌≤◌, ◌⊎◌, List, Result}
+use Rattle.std.specs.Prelude.{◌≡◌, ℕ, ◌<◌, ◌≤◌, ◌⊎◌, List, Result, Ok}
 use Rattle.algebra.specs.LowestTerms.{Parts}
 use Rattle.number_rules.specs.Rounded.{IsDecimal}
-use Rattle.number_rules.specs.Rows.{Reads, denominator_of}
+use Rattle.number_rules.specs.Rows.{Reads, denominator_of, tolerance_of}
+use Rattle.number_rules.specs.Value.{denominator, numerator}
+use Rattle.number_rules.specs.Within.{IsWithin}
 use Rattle.number_rules.specs.declared.decimal.Decimal.{Decimal}
 use Rattle.number_rules.specs.declared.unread.Unread.{Unread}
 use Rattle.number_rules.specs.declared.unread.Row.{Row}
@@ -24,3 +26,8 @@ pub record IsRow (k : ℕ) (row : Row) : Type 0 where
 module _ {N : Type 0} (k : ℕ) (parts : N → Parts) (row : Row) where
   abbrev pub ReadsText : List ℕ → Result N Unread → Type 0
   ReadsText text r = (d : Decimal) × (IsDecimal text d × Reads k parts row d r)
+
+  -- a number that is read of a text lies within the row's tolerance of the text's value
+  abbrev pub ReadsNear : Type 0
+  ReadsNear = (text : List ℕ) (x : N) → ReadsText text (Ok x)
+      → IsWithin k (parts x) (numerator text) (denominator text) (tolerance_of row)

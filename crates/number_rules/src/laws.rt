@@ -5,7 +5,7 @@ ghost use Rattle.algebra.specs.NumberField.{HoldsNumbers, IsRadicand};
 ghost use Rattle.json_tree.specs.Number.{IsNumber as IsNumberText};
 ghost use Rattle.number_rules.specs.ExactText.{exact_text_of, AreShort, ReadsExactText};
 ghost use Rattle.number_rules.specs.Nine.{IsNine, IsExactlyNine, nine_text};
-ghost use Rattle.number_rules.specs.OneReading.{IsRow, ReadsText};
+ghost use Rattle.number_rules.specs.OneReading.{IsRow, ReadsNear, ReadsText};
 ghost use Rattle.number_rules.specs.Rounded.{IsDecimal};
 ghost use Rattle.number_rules.specs.Rows.{IsNear};
 ghost use Rattle.number_rules.specs.Value.{numerator, denominator};
@@ -58,4 +58,9 @@ pub fn one_answer<N>()
         → (text : List ℕ) (r s : Result N Unread) → ReadsText k parts row text r → ReadsText k parts row text s → r ≡ s }
     ensures some { (k : ℕ) (parts : N → Parts) (row : Row) → HoldsNumbers k parts → IsRow k row
         → (text : List ℕ) → (r : Result N Unread) × ReadsText k parts row text r }
+{}
+
+/// A number that a row of the table reads of a text lies within the row's tolerance of the text's value.
+pub fn answers_are_near<N>()
+    ensures { (k : ℕ) (parts : N → Parts) (row : Row) → IsRadicand k → HoldsNumbers k parts → IsRow k row → ReadsNear k parts row }
 {}

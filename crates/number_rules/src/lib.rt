@@ -18,7 +18,8 @@ mod whole_text;
 pub use billionths::has_billionths;
 pub use decimal::{Decimal, read_decimal};
 pub use laws::{
-    nine_texts, one_a_at_each_b, one_answer, one_decimal, one_nine, texts_are_read_back,
+    answers_are_near, nine_texts, one_a_at_each_b, one_answer, one_decimal, one_nine,
+    texts_are_read_back,
 };
 pub use nine::{Nine, round_to_nine};
 pub use nine_text::print9;

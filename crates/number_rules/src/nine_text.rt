@@ -6,9 +6,6 @@ use crate::nine::round_to_nine;
 use exact_number::Exact;
 use itoa::Buffer;
 
-/// How many bytes a text with nine decimals may take.
-const ROOM: usize = 48;
-
 const BILLION: u64 = 1_000_000_000;
 
 /// Writes the text of a number, rounded to nine decimals, and gives its length: a minus where the rounded number is below

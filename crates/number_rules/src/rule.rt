@@ -53,7 +53,8 @@ impl<N: ExactNumber, F: Fn(Decimal) -> Result<N, Unread>> NumberRule<N, F> {
     }
 }
 
-/// The rule `exact`, by a function that reads by it.
+/// The rule `exact`, by a function that reads by it: a text's own value. A text is refused as `Fine` where that is no whole
+/// number of 10^-18, and as `Far` where it is past 2^62 in size, rounded to 18 decimals, or its numerator in lowest terms is.
 pub fn exact_rule<N: ExactNumber, F: Fn(Decimal) -> Result<N, Unread>>(call: F) -> NumberRule<N, F>
     requires { KeepsItsRow N.ROOT N.parts Exact (F.pre call) (F.post call) }
     ensures row { result.row ≡ Exact }
@@ -67,7 +68,8 @@ pub fn exact_rule<N: ExactNumber, F: Fn(Decimal) -> Result<N, Unread>>(call: F) 
     }
 }
 
-/// The rule `grid:n`, by a function that reads by it.
+/// The rule `grid:n`, by a function that reads by it: of a text's value, rounded to 18 decimals, the nearest multiple of 1/n,
+/// halves upwards. A text is refused as `Far` past 2^30 in size.
 pub fn grid_rule<N: ExactNumber, F: Fn(Decimal) -> Result<N, Unread>>(
     n: u32,
     call: F,
@@ -85,7 +87,9 @@ pub fn grid_rule<N: ExactNumber, F: Fn(Decimal) -> Result<N, Unread>>(
     }
 }
 
-/// The rule `root2:n`, by a function that reads by it.
+/// The rule `root2:n`, by a function that reads by it: the first (a+b√2)/n, by b in 0, 1, -1, 2, .. up to 1,024 in size, that
+/// lies at most 10^-7 from a text's value, rounded to 18 decimals. A text is refused as `Far` past 2^30 in size, and as
+/// `NoRoot` where there's no such number.
 pub fn root_two_rule<F: Fn(Decimal) -> Result<RootTwo, Unread>>(
     n: u32,
     call: F,
@@ -103,7 +107,7 @@ pub fn root_two_rule<F: Fn(Decimal) -> Result<RootTwo, Unread>>(
     }
 }
 
-/// The rule `root3:n`, by a function that reads by it.
+/// The rule `root3:n`, by a function that reads by it: as `root2:n`, with (a+b√3)/n.
 pub fn root_three_rule<F: Fn(Decimal) -> Result<RootThree, Unread>>(
     n: u32,
     call: F,

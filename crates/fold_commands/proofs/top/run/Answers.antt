@@ -17,6 +17,9 @@ pub returns-clause-narrow : goal.returns-clause-narrow
 returns-clause-narrow g c =
     c.narrow_drawings_can_be_written.ensures (texts c.args.words.now) _ _ _ c.perform-status.result c.perform-status.ensures.outcome
 
+pub returns-clause-near : goal.returns-clause-near
+returns-clause-near g c = c.numbers_are_read_near.ensures
+
 pub returns-clause-headline : goal.returns-clause-headline
 returns-clause-headline g c =
     judges_foldable c.yes_is_true.ensures (texts c.args.words.now) (λ bytes. c.one_outcome.ensures.one (texts c.args.words.now) bytes)
