@@ -1,4 +1,5 @@
 // Decimals as exact numbers, by each rule.
+use exact_number::Exact;
 use json_tree::NumberText;
 use number_rules::{
     Decimal, Unread, exact_rule, grid_rule, read_exact, read_grid, read_root_three, read_root_two,
